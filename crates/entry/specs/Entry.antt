@@ -1,0 +1,41 @@
+-- What happens to one copy of a word.
+use mathlib.Core.Bool.{Bool}
+use Prim.Native.Nat.{ℕ}
+use lib.Dec.{eqb}
+use Rattle.laws.specs.Choice.{pick, either}
+use Rattle.entry.specs.declared.Entry.{Entry}
+use Rattle.entry.specs.Numbers.{VALID, RESERVED, DIRTY, NORMAL, BACKUP, TENTATIVE, READ, RFO, WRITE, T-READ, T-RFO}
+use Rattle.entry.specs.Packing.{entry, noEntry}
+
+abbrev pub withState : Entry → ℕ → Entry
+withState e s = entry s (e .tag) (e .word) (e .«data»)
+
+abbrev pub withTag : Entry → ℕ → Entry
+withTag e t = entry (e .state) t (e .word) (e .«data»)
+
+-- "stores its value .. and makes it DIRTY"
+abbrev pub stored : Entry → ℕ → Entry
+stored e value = entry DIRTY (e .tag) (e .word) value
+
+-- Rollback: "tentative entries become invalid, backups become NORMAL"
+abbrev pub rolledBack : Entry → Entry
+rolledBack e = pick (eqb (e .tag) TENTATIVE) noEntry (pick (eqb (e .tag) BACKUP) (withTag e NORMAL) e)
+
+-- COMMIT: "backups become invalid, tentative entries NORMAL"
+abbrev pub committed : Entry → Entry
+committed e = pick (eqb (e .tag) BACKUP) noEntry (pick (eqb (e .tag) TENTATIVE) (withTag e NORMAL) e)
+
+-- "RESERVED and DIRTY become VALID"
+abbrev pub shared : Entry → Entry
+shared e = pick (either (eqb (e .state) RESERVED) (eqb (e .state) DIRTY)) (withState e VALID) e
+
+-- the cycles that leave other copies, and those that leave none
+abbrev pub shares : ℕ → Bool
+shares cycle = either (eqb cycle READ) (eqb cycle T-READ)
+
+abbrev pub takes : ℕ → Bool
+takes cycle = either (eqb cycle RFO) (either (eqb cycle WRITE) (eqb cycle T-RFO))
+
+-- "READ or T_READ: RESERVED and DIRTY become VALID. RFO, T_RFO, WRITE: the copy becomes invalid."
+abbrev pub snooped : ℕ → Entry → Entry
+snooped cycle e = pick (shares cycle) (shared e) (pick (takes cycle) noEntry e)

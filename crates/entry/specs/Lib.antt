@@ -1,0 +1,4 @@
+pub mod Numbers
+pub mod Packing
+pub mod Entry
+pub mod Answer

@@ -1,0 +1,5 @@
+pub mod Choice
+pub mod Fold
+pub mod Search
+pub mod Until
+pub mod Places

@@ -1,0 +1,5 @@
+pub mod Table
+pub mod Cases
+pub mod Edges
+pub mod Worked
+pub mod Readings
