@@ -13,6 +13,12 @@ use Rattle.entry.proofs.Entry.unpack.Reads as unpack-reads
 use Rattle.entry.proofs.Entry.pack as pack
 use Rattle.entry.proofs.Entry.pack.Kinds as pack-kinds
 use Rattle.entry.proofs.Entry.pack.Reads as pack-reads
+use Rattle.entry.proofs.Entry.with_state as with-state
+use Rattle.entry.proofs.Entry.with_state.Kinds as with-state-kinds
+use Rattle.entry.proofs.Entry.with_state.Reads as with-state-reads
+use Rattle.entry.proofs.Entry.with_tag as with-tag
+use Rattle.entry.proofs.Entry.with_tag.Kinds as with-tag-kinds
+use Rattle.entry.proofs.Entry.with_tag.Reads as with-tag-reads
 use Rattle.entry.proofs.Entry.stored as stored
 use Rattle.entry.proofs.Entry.stored.Kinds as stored-kinds
 use Rattle.entry.proofs.Entry.stored.Reads as stored-reads
@@ -49,6 +55,14 @@ unpack-unique κs a r r' s s' p q = p ∙ sym q
 pub pack-unique : (κs : Lfts 0) (a : ArgsD pack.signature κs) (r r' : ResD pack.signature κs)
     (s s' : AtExit (endedOf 0 pack-kinds.ps pack-kinds.r) κs) → pack-reads.Post κs a r s → pack-reads.Post κs a r' s' → r ≡ r'
 pack-unique κs a r r' s s' p q = p ∙ sym q
+
+pub with-state-unique : (κs : Lfts 0) (a : ArgsD with-state.signature κs) (r r' : ResD with-state.signature κs)
+    (s s' : AtExit (endedOf 0 with-state-kinds.ps with-state-kinds.r) κs) → with-state-reads.Post κs a r s → with-state-reads.Post κs a r' s' → r ≡ r'
+with-state-unique κs a r r' s s' p q = p ∙ sym q
+
+pub with-tag-unique : (κs : Lfts 0) (a : ArgsD with-tag.signature κs) (r r' : ResD with-tag.signature κs)
+    (s s' : AtExit (endedOf 0 with-tag-kinds.ps with-tag-kinds.r) κs) → with-tag-reads.Post κs a r s → with-tag-reads.Post κs a r' s' → r ≡ r'
+with-tag-unique κs a r r' s s' p q = p ∙ sym q
 
 pub stored-unique : (κs : Lfts 0) (a : ArgsD stored.signature κs) (r r' : ResD stored.signature κs)
     (s s' : AtExit (endedOf 0 stored-kinds.ps stored-kinds.r) κs) → stored-reads.Post κs a r s → stored-reads.Post κs a r' s' → r ≡ r'

@@ -17,7 +17,7 @@ use crate::numbers::VALID;
 use crate::numbers::WRITE;
 ghost use mathlib.Core.Path.{_≡_};
 ghost use Rattle.entry.specs.Packing.{noEntry, pack, unpack};
-ghost use Rattle.entry.specs.Entry.{stored, rolledBack, committed, shared, snooped};
+ghost use Rattle.entry.specs.Entry.{withState, withTag, stored, rolledBack, committed, shared, snooped};
 
 // A regular line has no tag: its tag is INVALID.
 pub struct Entry {
@@ -59,6 +59,28 @@ impl Entry {
                 * ((self.word as u64) + 256 * ((self.tag as u64) + 4 * (self.state as u64)))
     }
 
+    pub fn with_state(self, state: u8) -> Entry
+        ensures { λ r. ⌜ r ≡ withState self state ⌝ }
+    {
+        Entry {
+            state: state,
+            tag: self.tag,
+            word: self.word,
+            data: self.data,
+        }
+    }
+
+    pub fn with_tag(self, tag: u8) -> Entry
+        ensures { λ r. ⌜ r ≡ withTag self tag ⌝ }
+    {
+        Entry {
+            state: self.state,
+            tag: tag,
+            word: self.word,
+            data: self.data,
+        }
+    }
+
     pub fn stored(self, value: u32) -> Entry
         ensures { λ r. ⌜ r ≡ stored self value ⌝ }
     {
@@ -76,12 +98,7 @@ impl Entry {
         let tag = self.tag;
         match tag {
             TENTATIVE => Entry::none(),
-            BACKUP => Entry {
-                state: self.state,
-                tag: NORMAL,
-                word: self.word,
-                data: self.data,
-            },
+            BACKUP => self.with_tag(NORMAL),
             INVALID..=NORMAL | 4..=255 => self,
         }
     }
@@ -92,12 +109,7 @@ impl Entry {
         let tag = self.tag;
         match tag {
             BACKUP => Entry::none(),
-            TENTATIVE => Entry {
-                state: self.state,
-                tag: NORMAL,
-                word: self.word,
-                data: self.data,
-            },
+            TENTATIVE => self.with_tag(NORMAL),
             INVALID..=NORMAL | 4..=255 => self,
         }
     }
@@ -121,18 +133,8 @@ impl Entry {
     {
         let state = self.state;
         match state {
-            RESERVED => Entry {
-                state: VALID,
-                tag: self.tag,
-                word: self.word,
-                data: self.data,
-            },
-            DIRTY => Entry {
-                state: VALID,
-                tag: self.tag,
-                word: self.word,
-                data: self.data,
-            },
+            RESERVED => self.with_state(VALID),
+            DIRTY => self.with_state(VALID),
             INVALID..=VALID | 4..=255 => self,
         }
     }

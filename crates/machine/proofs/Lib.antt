@@ -3,3 +3,4 @@ pub mod Cases
 pub mod Edges
 pub mod Worked
 pub mod Readings
+pub mod Slots

@@ -2,25 +2,21 @@ use borrow.Author.Tests.{ne-eqb}
 use borrow.Author.Needs.{needs}
 use Rattle.entry.proofs.Entry.committed.Statement.{statement}
 use Rattle.entry.proofs.Entry.committed.Tie as tie
-use Rattle.entry.proofs.Entry.committed.Reads as reads
-use Rattle.entry.proofs.Entry.committed.Lts as lts
-use Rattle.entry.proofs.Entry.none.Reads as none-reads
 
--- src/lib.rt:71:23
 none-requires : tie.Need-none-requires
 none-requires c κs = search needs
 
--- src/lib.rt:66:5
+with-tag-requires : tie.Need-with-tag-requires
+with-tag-requires c κs = search needs
+
 returns : tie.Need-returns
 returns c = rw (c .before .match .keys1) (c .none .ensures)
 
--- src/lib.rt:66:5
 returns-2 : tie.Need-returns-2
-returns-2 c = rw (c .match .keys2)
+returns-2 c = rw (c .before .match .keys2) (c .with-tag .ensures)
 
--- src/lib.rt:66:5
 returns-3 : tie.Need-returns-3
 returns-3 c = rw (ne-eqb _ _ (c .match .rest .0 .1), ne-eqb _ _ (c .match .rest .1))
 
 pub committed-spec : {M : Type 1} → statement M
-committed-spec = tie.close (tie.spec none-requires returns returns-2 returns-3)
+committed-spec = tie.close (tie.spec none-requires with-tag-requires returns returns-2 returns-3)

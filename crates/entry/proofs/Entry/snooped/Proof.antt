@@ -2,52 +2,37 @@ use borrow.Author.Tests.{ne-eqb}
 use borrow.Author.Needs.{needs}
 use Rattle.entry.proofs.Entry.snooped.Statement.{statement}
 use Rattle.entry.proofs.Entry.snooped.Tie as tie
-use Rattle.entry.proofs.Entry.snooped.Reads as reads
-use Rattle.entry.proofs.Entry.snooped.Lts as lts
-use Rattle.entry.proofs.Entry.none.Reads as none-reads
-use Rattle.entry.proofs.Entry.shared.Reads as shared-reads
 
--- src/lib.rt:82:21
 shared-requires : tie.Need-shared-requires
 shared-requires c κs = search needs
 
--- src/lib.rt:83:20
 none-requires : tie.Need-none-requires
 none-requires c κs = search needs
 
--- src/lib.rt:84:22
 none-requires-2 : tie.Need-none-requires-2
 none-requires-2 c κs = search needs
 
--- src/lib.rt:85:23
 shared-requires-2 : tie.Need-shared-requires-2
 shared-requires-2 c κs = search needs
 
--- src/lib.rt:86:22
 none-requires-3 : tie.Need-none-requires-3
 none-requires-3 c κs = search needs
 
--- src/lib.rt:78:5
 returns : tie.Need-returns
 returns c = rw (c .before .match .keys1) (c .shared .ensures)
 
--- src/lib.rt:78:5
 returns-2 : tie.Need-returns-2
 returns-2 c = rw (c .before .match .keys2) (c .none .ensures)
 
--- src/lib.rt:78:5
 returns-3 : tie.Need-returns-3
 returns-3 c = rw (c .before .match .keys3) (c .none2 .ensures)
 
--- src/lib.rt:78:5
 returns-4 : tie.Need-returns-4
 returns-4 c = rw (c .before .match .keys4) (c .shared2 .ensures)
 
--- src/lib.rt:78:5
 returns-5 : tie.Need-returns-5
 returns-5 c = rw (c .before .match .keys5) (c .none3 .ensures)
 
--- src/lib.rt:78:5
 returns-6 : tie.Need-returns-6
 returns-6 c = let r = c .match .rest in rw (ne-eqb _ _ (r .0 .0 .0 .0 .1), ne-eqb _ _ (r .0 .0 .0 .1), ne-eqb _ _ (r .0 .0 .1), ne-eqb _ _ (r .0 .1), ne-eqb _ _ (r .1))
 
