@@ -2,7 +2,7 @@
 use mathlib.Core.Bool.{Bool}
 use Prim.Native.Nat.{ℕ}
 use lib.Dec.{eqb}
-use Rattle.laws.specs.Choice.{pick, either}
+use Rattle.laws.specs.Choice.{pick, both, either}
 use Rattle.entry.specs.declared.Entry.{Entry}
 use Rattle.entry.specs.Numbers.{VALID, RESERVED, DIRTY, NORMAL, BACKUP, TENTATIVE, READ, RFO, WRITE, T-READ, T-RFO}
 use Rattle.entry.specs.Packing.{entry, noEntry}
@@ -28,6 +28,14 @@ committed e = pick (eqb (e .tag) BACKUP) noEntry (pick (eqb (e .tag) TENTATIVE) 
 -- "RESERVED and DIRTY become VALID"
 abbrev pub shared : Entry → Entry
 shared e = pick (either (eqb (e .state) RESERVED) (eqb (e .state) DIRTY)) (withState e VALID) e
+
+-- an entry with the tag and the word
+abbrev pub isEntry : Entry → ℕ → ℕ → Bool
+isEntry e tag word = both (eqb (e .tag) tag) (eqb (e .word) word)
+
+-- "NORMAL and surviving tentative copies take part"
+abbrev pub isLive : Entry → ℕ → Bool
+isLive e word = both (either (eqb (e .tag) NORMAL) (eqb (e .tag) TENTATIVE)) (eqb (e .word) word)
 
 -- the cycles that leave other copies, and those that leave none
 abbrev pub shares : ℕ → Bool

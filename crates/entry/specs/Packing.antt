@@ -63,3 +63,17 @@ unpack-zero x h e =
       ap (λ (y : Entry). y .word) e,
       ap (λ (y : Entry). y .«data») e,
     )
+
+-- tag and word as one number, which a search compares once
+pub key-both : (x t w : ℕ) → w < 256 → x / 4294967296 % 1024 ≡ t * 256 + w → (unpack x .tag ≡ t) × (unpack x .word ≡ w)
+key-both x t w h e = (omega arith, omega arith)
+
+pub key-of : (x t w : ℕ) → unpack x .tag ≡ t → unpack x .word ≡ w → x / 4294967296 % 1024 ≡ t * 256 + w
+key-of x t w a b = omega arith
+
+-- an odd tag, NORMAL or tentative, and the word
+pub live-both : (x w : ℕ) → w < 256 → x / 4294967296 % 512 ≡ 256 + w → (unpack x .tag % 2 ≡ 1) × (unpack x .word ≡ w)
+live-both x w h e = (omega arith, omega arith)
+
+pub live-of : (x w : ℕ) → unpack x .tag % 2 ≡ 1 → unpack x .word ≡ w → x / 4294967296 % 512 ≡ 256 + w
+live-of x w a b = omega arith

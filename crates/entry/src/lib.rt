@@ -2,6 +2,7 @@
 
 pub mod answer;
 pub mod numbers;
+pub mod packed;
 
 use crate::numbers::BACKUP;
 use crate::numbers::DIRTY;

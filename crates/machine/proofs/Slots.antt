@@ -59,6 +59,7 @@ module _ (es : List ℕ) (p n : ℕ) where
           at true y tx ty q = absurd (omega (arith, ltb-true a n tx, q))
           at false true tx ty q = absurd (omega (arith, ltb-true b n ty, q))
           at false false tx ty q = (omega (arith, ltb-false a n tx), omega (arith, ltb-false b n ty), q)
+
       first : (lowest es p n INVALID n ≡ n) × (lowest es p n NORMAL n ≡ n) × (lowest es p n BACKUP n ≡ n)
       first =
           by (lowest es p n INVALID n) (lowest es p n NORMAL n) (lowest es p n BACKUP n) (lowest-most INVALID) (lowest-most NORMAL)
@@ -67,9 +68,11 @@ module _ (es : List ℕ) (p n : ℕ) where
   pub only-tentative : AllTentative es p n → freeSlot es p n n ≡ n
   unfolding freeSlot AllTentative
   only-tentative h =
-      rw
-      (finds-none INVALID (λ i l. other i l INVALID (λ z. omega arith)), finds-none NORMAL (λ i l. other i l NORMAL (λ z. omega arith)),
-      le-ltb n n (omega arith))
+      rw (
+        finds-none INVALID (λ i l. other i l INVALID (λ z. omega arith)),
+        finds-none NORMAL (λ i l. other i l NORMAL (λ z. omega arith)),
+        le-ltb n n (omega arith),
+      )
       (finds-none BACKUP (λ i l. other i l BACKUP (λ z. omega arith)))
     where
       other : (i : ℕ) → i < n → (tag : ℕ) → tag ≢ TENTATIVE → copyAt es p i .tag ≢ tag

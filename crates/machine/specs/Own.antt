@@ -3,10 +3,11 @@ use mathlib.Core.Bool.{Bool, not}
 use mathlib.Core.List.{List}
 use Prim.Native.Nat.{ℕ, _%_}
 use lib.Dec.{eqb, ltb}
-use Rattle.laws.specs.Choice.{pick, both, either}
+use Rattle.laws.specs.Choice.{pick, both}
 use Rattle.laws.specs.Search.{firstFrom}
 use Rattle.entry.specs.declared.Entry.{Entry}
-use Rattle.entry.specs.Numbers.{INVALID, NORMAL, BACKUP, TENTATIVE}
+use Rattle.entry.specs.Numbers.{INVALID, NORMAL, BACKUP}
+use Rattle.entry.specs.Entry.{isEntry, isLive}
 use Rattle.machine.specs.declared.Dims.{Dims}
 use Rattle.machine.specs.State.{copyAt}
 
@@ -19,7 +20,7 @@ abbrev pub holds : Entry → ℕ → Bool
 holds e word = both (not (eqb (e .state) INVALID)) (eqb (e .word) word)
 
 abbrev pub hasEntry : List ℕ → ℕ → ℕ → ℕ → ℕ → Bool
-hasEntry es p tag word i = both (eqb (copyAt es p i .tag) tag) (eqb (copyAt es p i .word) word)
+hasEntry es p tag word i = isEntry (copyAt es p i) tag word
 
 -- the first of p's n entries with the tag and the word, else n
 unfoldable pub findEntry : List ℕ → ℕ → ℕ → ℕ → ℕ → ℕ
@@ -40,10 +41,9 @@ freeSlot es p n taken =
     let k = lowest es p n BACKUP taken in
     pick (ltb i n) i (pick (ltb j n) j k)
 
--- an entry that takes part in another's cycle: "NORMAL and surviving tentative copies"
-abbrev pub isLive : List ℕ → ℕ → ℕ → ℕ → Bool
-isLive es p word i =
-    both (either (eqb (copyAt es p i .tag) NORMAL) (eqb (copyAt es p i .tag) TENTATIVE)) (eqb (copyAt es p i .word) word)
+abbrev pub hasLive : List ℕ → ℕ → ℕ → ℕ → Bool
+hasLive es p word i = isLive (copyAt es p i) word
 
+-- the first of p's n entries that takes part in another's cycle: "NORMAL and surviving tentative copies"; else n
 unfoldable pub liveEntry : List ℕ → ℕ → ℕ → ℕ → ℕ
-liveEntry es p n word = firstFrom (isLive es p word) 0 n
+liveEntry es p n word = firstFrom (hasLive es p word) 0 n
