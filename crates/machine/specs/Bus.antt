@@ -33,10 +33,9 @@ abbrev pub clearEntry : Caches → ℕ → ℕ → Caches
 clearEntry s p i =
     caches (writtenBack (s .memory) (entryAt s p i)) (s .lines) (withCopy (s .entries) p i noEntry) (s .flags)
 
--- "A DIRTY copy supplies the data and memory takes it, with no WRITE counted": processor q's regular copy
-unfoldable pub snoopLine : Dims → ℕ → ℕ → ℕ → Caches → Caches
-snoopLine d word cycle q s =
-    let i = home d word in
+-- "A DIRTY copy supplies the data and memory takes it, with no WRITE counted": processor q's regular copy, the word's line being i
+unfoldable pub snoopLine : ℕ → ℕ → ℕ → ℕ → Caches → Caches
+snoopLine i word cycle q s =
     let e = lineAt s q i in
     let t = caches (writtenBack (s .memory) e) (withCopy (s .lines) q i (snooped cycle e)) (s .entries) (s .flags) in
     pick (holds e word) t s
@@ -49,12 +48,12 @@ snoopEntry d word cycle q s =
     let t = caches (writtenBack (s .memory) e) (s .lines) (withCopy (s .entries) q i (snooped cycle e)) (s .flags) in
     pick (ltb i (d .entries)) t s
 
-unfoldable pub snoopOne : Dims → ℕ → ℕ → ℕ → ℕ → Caches → Caches
-snoopOne d p word cycle q s = pick (eqb q p) s (snoopEntry d word cycle q (snoopLine d word cycle q s))
+unfoldable pub snoopOne : Dims → ℕ → ℕ → ℕ → ℕ → ℕ → Caches → Caches
+snoopOne d i p word cycle q s = pick (eqb q p) s (snoopEntry d word cycle q (snoopLine i word cycle q s))
 
 -- "Regular, NORMAL and surviving tentative copies take part", of every processor but p
 unfoldable pub snoop : Dims → ℕ → ℕ → ℕ → Caches → Caches
-snoop d p word cycle s = foldRange (snoopOne d p word cycle) 0 (d .processors) s
+snoop d p word cycle s = foldRange (snoopOne d (home d word) p word cycle) 0 (d .processors) s
 
 -- whether q's tentative copy stands against a cycle: any does against one that takes the word, one "RESERVED or DIRTY" against every cycle
 unfoldable pub opposes : Dims → ℕ → ℕ → ℕ → List ℕ → Bool

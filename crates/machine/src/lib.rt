@@ -9,14 +9,21 @@ pub struct Dims {
     pub entries: usize,
 }
 
+// The lent arrays: memory, regular lines or transactional entries, flags.
+pub type Memory = [u32; 256];
+
+pub type Copies = [u64; 512];
+
+pub type Flags = [u8; 16];
+
 // Processor p's regular line i stands at p * 64 + i, packed, and so does its transactional entry i. TACTIVE of p is flag p and TSTATUS
 // flag 8 + p, each 0 or 1.
 pub struct Machine {
     pub dims: Dims,
-    pub memory: [u32; 256],
-    pub lines: [u64; 512],
-    pub entries: [u64; 512],
-    pub flags: [u8; 16],
+    pub memory: Memory,
+    pub lines: Copies,
+    pub entries: Copies,
+    pub flags: Flags,
 }
 
 // refusal is 0 where the machine was made.

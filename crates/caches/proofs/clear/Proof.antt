@@ -1,0 +1,45 @@
+use mathlib.Core.Path.{refl}
+use borrow.Author.Needs.{needs}
+use Rattle.caches.proofs.clear.Statement.{statement}
+use Rattle.caches.proofs.clear.Tie as tie
+
+mul-j : tie.Need-mul-j
+mul-j c = search needs
+
+add-j : tie.Need-add-j
+add-j c = search needs
+
+mul-unpack : tie.Need-mul-unpack
+mul-unpack c = search needs
+
+element-copy-out-unpack : tie.Need-element-copy-out-unpack
+element-copy-out-unpack c = search needs
+
+unpack-requires : tie.Need-unpack-requires
+unpack-requires c κs = search needs
+
+mul-copies : tie.Need-mul-copies
+mul-copies c = search needs
+
+element-write-copies : tie.Need-element-write-copies
+element-write-copies c = search needs
+
+write-back-requires : tie.Need-write-back-requires
+write-back-requires c κs = search needs
+
+returns : tie.Need-returns
+returns c = (rw (← c .before .before .unpack .ensures) (c .write-back .ensures .0), refl, rw (← c .before .before .unpack .ensures) (c .write-back .ensures .1))
+
+pub clear-spec : {M : Type 1} → statement M
+clear-spec =
+    tie.close
+    (tie.spec
+    mul-j
+    add-j
+    mul-unpack
+    element-copy-out-unpack
+    unpack-requires
+    mul-copies
+    element-write-copies
+    write-back-requires
+    returns)

@@ -1,0 +1,31 @@
+use borrow.Author.Tests.{lt-ltb, le-ltb}
+use Rattle.machine.specs.Own.{freeSlot}
+use borrow.Author.Needs.{needs}
+use Rattle.caches.proofs.free_slot.Statement.{statement}
+use Rattle.caches.proofs.free_slot.Tie as tie
+
+lowest-requires : tie.Need-lowest-requires
+lowest-requires c κs = search needs
+
+returns : tie.Need-returns
+unfolding freeSlot
+returns c = rw (← c .before .lowest .ensures, lt-ltb _ _ (c .if1 .taken))
+
+lowest-requires-2 : tie.Need-lowest-requires-2
+lowest-requires-2 c κs = search needs
+
+returns-2 : tie.Need-returns-2
+unfolding freeSlot
+returns-2 c = rw (← c .before .before .before .lowest .ensures, le-ltb _ _ (c .before .before .if1 .left), ← c .before .lowest2 .ensures, lt-ltb _ _ (c .if2 .taken))
+
+lowest-requires-3 : tie.Need-lowest-requires-3
+lowest-requires-3 c κs = search needs
+
+returns-3 : tie.Need-returns-3
+unfolding freeSlot
+returns-3 c = rw (← c .before .before .before .before .lowest .ensures, le-ltb _ _ (c .before .before .before .if1 .left), ← c .before .before .lowest2 .ensures, le-ltb _ _ (c .before .if2 .left)) (c .lowest3 .ensures)
+
+pub free-slot-spec : {M : Type 1} → statement M
+free-slot-spec =
+    tie.close
+    (tie.spec lowest-requires returns lowest-requires-2 returns-2 lowest-requires-3 returns-3)

@@ -1,0 +1,156 @@
+// One processor's caches, on the lent arrays.
+
+use entry::Entry;
+use entry::numbers::BACKUP;
+use entry::numbers::DIRTY;
+use entry::numbers::INVALID;
+use entry::numbers::NORMAL;
+use machine::Copies;
+use machine::Dims;
+use machine::Flags;
+use machine::Memory;
+ghost use mathlib.Core.Path.{_≡_};
+ghost use Rattle.entry.specs.Packing.{noEntry};
+ghost use Rattle.machine.specs.State.{copyAt, withCopy};
+ghost use Rattle.machine.specs.Own.{home, holds, findEntry, lowest, freeSlot, liveEntry};
+ghost use Rattle.machine.specs.Rollback.{rolledEntries, statusDown, committedEntries};
+ghost use Rattle.machine.specs.Bus.{writtenBack, writes};
+
+// A machine of no lines is never made; the remainder by 0 is the word itself, as in the definition.
+pub fn home(d: Dims, word: u8) -> usize
+    ensures { λ r. ⌜ r ≡ home d word ⌝ }
+{
+    let lines = d.lines;
+    let w = word as usize;
+    if lines == 0 {
+        return w;
+    }
+    w % lines
+}
+
+pub fn holds(e: Entry, word: u8) -> bool
+    ensures { λ r. ⌜ r ≡ holds e word ⌝ }
+{
+    e.state != INVALID && e.word == word
+}
+
+pub fn find_entry(entries: &Copies, p: usize, n: usize, tag: u8, word: u8) -> usize
+    ensures { λ r. ⌜ r ≡ findEntry (now (entries .entry)) p n tag word ⌝ }
+{
+    let base = p % 8 * 64;
+    let mut i: usize = 0;
+    let at = loop {
+        if i >= n {
+            break n;
+        }
+        let j = base + i % 64;
+        if entry::packed::is_entry(entries[j], tag, word) {
+            break i;
+        }
+        i += 1;
+    };
+    at
+}
+
+pub fn live_entry(entries: &Copies, p: usize, n: usize, word: u8) -> usize
+    ensures { λ r. ⌜ r ≡ liveEntry (now (entries .entry)) p n word ⌝ }
+{
+    let base = p % 8 * 64;
+    let mut i: usize = 0;
+    let at = loop {
+        if i >= n {
+            break n;
+        }
+        let j = base + i % 64;
+        if entry::packed::is_live(entries[j], word) {
+            break i;
+        }
+        i += 1;
+    };
+    at
+}
+
+fn lowest(entries: &Copies, p: usize, n: usize, tag: u8, taken: usize) -> usize
+    ensures { λ r. ⌜ r ≡ lowest (now (entries .entry)) p n tag taken ⌝ }
+{
+    let base = p % 8 * 64;
+    let mut i: usize = 0;
+    let slot = loop {
+        if i >= n {
+            break n;
+        }
+        let j = base + i % 64;
+        let t = entry::packed::tag_of(entries[j]);
+        if i != taken && t == tag {
+            break i;
+        }
+        i += 1;
+    };
+    slot
+}
+
+pub fn free_slot(entries: &Copies, p: usize, n: usize, taken: usize) -> usize
+    ensures { λ r. ⌜ r ≡ freeSlot (now (entries .entry)) p n taken ⌝ }
+{
+    let i = lowest(entries, p, n, INVALID, taken);
+    if i < n {
+        return i;
+    }
+    let j = lowest(entries, p, n, NORMAL, taken);
+    if j < n {
+        return j;
+    }
+    lowest(entries, p, n, BACKUP, taken)
+}
+
+pub fn rollback(entries: &mut Copies, flags: &mut Flags, p: usize, n: usize)
+    ensures { λ r. ⌜ (now (entries .exit) ≡ rolledEntries (now (entries .entry)) p n) × (now (flags .exit) ≡ statusDown (now (flags .entry)) p) ⌝ }
+{
+    let base = p % 8 * 64;
+    let mut i: usize = 0;
+    while i < n {
+        let j = base + i % 64;
+        let e = Entry::unpack(entries[j]);
+        let f = e.rolled_back();
+        entries[j] = f.pack();
+        i += 1;
+    }
+    let k = 8 + p % 8;
+    flags[k] = 0;
+}
+
+pub fn commit_entries(entries: &mut Copies, p: usize, n: usize)
+    ensures { λ r. ⌜ now (entries .exit) ≡ committedEntries (now (entries .entry)) p n ⌝ }
+{
+    let base = p % 8 * 64;
+    let mut i: usize = 0;
+    while i < n {
+        let j = base + i % 64;
+        let e = Entry::unpack(entries[j]);
+        let f = e.committed();
+        entries[j] = f.pack();
+        i += 1;
+    }
+}
+
+// Answers how many WRITE that is.
+pub fn write_back(memory: &mut Memory, e: Entry) -> u8
+    ensures { λ r. ⌜ (now (memory .exit) ≡ writtenBack (now (memory .entry)) e) × (r ≡ writes e) ⌝ }
+{
+    if e.state != DIRTY {
+        return 0;
+    }
+    let w = e.word as usize;
+    memory[w] = e.data;
+    1
+}
+
+// Of lines or of entries: a copy is written back if DIRTY, and made invalid. Answers how many WRITE that is.
+pub fn clear(memory: &mut Memory, copies: &mut Copies, p: usize, i: usize) -> u8
+    ensures { λ r. ⌜ (now (memory .exit) ≡ writtenBack (now (memory .entry)) (copyAt (now (copies .entry)) p i)) × (now (copies .exit) ≡ withCopy (now (copies .entry)) p i noEntry) × (r ≡ writes (copyAt (now (copies .entry)) p i)) ⌝ }
+{
+    let j = p % 8 * 64 + i % 64;
+    let e = Entry::unpack(copies[j]);
+    copies[j] = 0;
+    write_back(memory, e)
+}

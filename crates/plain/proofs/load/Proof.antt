@@ -1,0 +1,102 @@
+use borrow.Author.Tests.{lt-ltb, le-ltb, eq-eqb, ne-eqb}
+use Rattle.machine.specs.Load.{load}
+use borrow.Author.Needs.{needs}
+use Rattle.plain.proofs.load.Statement.{statement}
+use Rattle.plain.proofs.load.Tie as tie
+
+home-requires : tie.Need-home-requires
+home-requires c κs = search needs
+
+mul-j : tie.Need-mul-j
+mul-j c = search needs
+
+add-j : tie.Need-add-j
+add-j c = search needs
+
+mul-unpack : tie.Need-mul-unpack
+mul-unpack c = search needs
+
+element-copy-out-unpack : tie.Need-element-copy-out-unpack
+element-copy-out-unpack c = search needs
+
+unpack-requires : tie.Need-unpack-requires
+unpack-requires c κs = search needs
+
+holds-requires : tie.Need-holds-requires
+holds-requires c κs = search needs
+
+hit-requires : tie.Need-hit-requires
+hit-requires c κs = search needs
+
+returns : tie.Need-returns
+unfolding load
+returns c = rw (← c .before .before .before .before .before .home .ensures, ← (rw (c .before .before .before .unpack .ensures) at (c .before .before .holds .ensures)), c .before .if1 .taken, c .hit .ensures, c .before .before .before .unpack .ensures)
+
+find-entry-requires : tie.Need-find-entry-requires
+find-entry-requires c κs = search needs
+
+load-on-requires : tie.Need-load-on-requires
+load-on-requires c κs = search needs
+
+returns-2 : tie.Need-returns-2
+unfolding load
+returns-2 c = rw (← c .before .before .before .before .before .before .before .before .before .before .before .before .before .home .ensures, ← (rw (c .before .before .before .before .before .before .before .before .before .before .before .unpack .ensures) at (c .before .before .before .before .before .before .before .before .before .before .holds .ensures)), c .before .before .before .before .before .before .before .before .before .if1 .left, ← c .before .before .before .before .before .before .before .find-entry .ensures, le-ltb _ _ (c .before .before .before .before .before .if2 .taken)) (c .load-on .ensures)
+
+mul-k : tie.Need-mul-k
+mul-k c = search needs
+
+add-k : tie.Need-add-k
+add-k c = search needs
+
+mul-unpack-2 : tie.Need-mul-unpack-2
+mul-unpack-2 c = search needs
+
+element-copy-out-unpack-2 : tie.Need-element-copy-out-unpack-2
+element-copy-out-unpack-2 c = search needs
+
+unpack-requires-2 : tie.Need-unpack-requires-2
+unpack-requires-2 c κs = search needs
+
+hit-requires-2 : tie.Need-hit-requires-2
+hit-requires-2 c κs = search needs
+
+returns-3 : tie.Need-returns-3
+unfolding load
+returns-3 c = rw (← c .before .before .before .before .before .before .before .before .before .before .before .before .before .home .ensures, ← (rw (c .before .before .before .before .before .before .before .before .before .before .before .unpack .ensures) at (c .before .before .before .before .before .before .before .before .before .before .holds .ensures)), c .before .before .before .before .before .before .before .before .before .if1 .left, ← c .before .before .before .before .before .before .before .find-entry .ensures, lt-ltb _ _ (c .before .before .before .before .before .if2 .left), eq-eqb _ _ (rw (c .before .before .before .unpack2 .ensures) at (c .before .if3 .taken)), c .hit2 .ensures, c .before .before .before .unpack2 .ensures)
+
+rollback-requires : tie.Need-rollback-requires
+rollback-requires c κs = search needs
+
+load-on-requires-2 : tie.Need-load-on-requires-2
+load-on-requires-2 c κs = search needs
+
+returns-4 : tie.Need-returns-4
+unfolding load
+returns-4 c = rw (← c .before .before .before .before .before .before .before .before .before .before .before .before .before .before .before .before .before .before .before .before .home .ensures, ← (rw (c .before .before .before .before .before .before .before .before .before .before .before .before .before .before .before .before .before .before .unpack .ensures) at (c .before .before .before .before .before .before .before .before .before .before .before .before .before .before .before .before .before .holds .ensures)), c .before .before .before .before .before .before .before .before .before .before .before .before .before .before .before .before .if1 .left, ← c .before .before .before .before .before .before .before .before .before .before .before .before .before .before .find-entry .ensures, lt-ltb _ _ (c .before .before .before .before .before .before .before .before .before .before .before .before .if2 .left), ne-eqb _ _ (rw (c .before .before .before .before .before .before .before .before .before .before .unpack2 .ensures) at (c .before .before .before .before .before .before .before .before .if3 .left)), ← c .before .before .before .before .before .rollback .ensures .0, ← c .before .before .before .before .before .rollback .ensures .1) (c .load-on2 .ensures)
+
+pub load-spec : {M : Type 1} → statement M
+load-spec =
+    tie.close
+    (tie.spec
+    home-requires
+    mul-j
+    add-j
+    mul-unpack
+    element-copy-out-unpack
+    unpack-requires
+    holds-requires
+    hit-requires
+    returns
+    find-entry-requires
+    load-on-requires
+    returns-2
+    mul-k
+    add-k
+    mul-unpack-2
+    element-copy-out-unpack-2
+    unpack-requires-2
+    hit-requires-2
+    returns-3
+    rollback-requires
+    load-on-requires-2
+    returns-4)

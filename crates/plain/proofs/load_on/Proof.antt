@@ -1,0 +1,52 @@
+use borrow.Author.Tests.{lt-ltb, le-ltb}
+use Rattle.machine.specs.Load.{loadOn}
+use borrow.Author.Needs.{needs}
+use Rattle.plain.proofs.load_on.Statement.{statement}
+use Rattle.plain.proofs.load_on.Tie as tie
+
+find-entry-requires : tie.Need-find-entry-requires
+find-entry-requires c κs = search needs
+
+mul-j : tie.Need-mul-j
+mul-j c = search needs
+
+add-j : tie.Need-add-j
+add-j c = search needs
+
+mul-unpack : tie.Need-mul-unpack
+mul-unpack c = search needs
+
+element-copy-out-unpack : tie.Need-element-copy-out-unpack
+element-copy-out-unpack c = search needs
+
+unpack-requires : tie.Need-unpack-requires
+unpack-requires c κs = search needs
+
+hit-requires : tie.Need-hit-requires
+hit-requires c κs = search needs
+
+returns : tie.Need-returns
+unfolding loadOn
+returns c = rw (← c .before .before .before .before .before .find-entry .ensures, lt-ltb _ _ (c .before .before .before .if1 .taken), c .hit .ensures, c .before .unpack .ensures)
+
+load-miss-requires : tie.Need-load-miss-requires
+load-miss-requires c κs = search needs
+
+returns-2 : tie.Need-returns-2
+unfolding loadOn
+returns-2 c = rw (← c .before .before .before .before .before .before .before .find-entry .ensures, le-ltb _ _ (c .before .before .before .before .before .if1 .left)) (c .load-miss .ensures)
+
+pub load-on-spec : {M : Type 1} → statement M
+load-on-spec =
+    tie.close
+    (tie.spec
+    find-entry-requires
+    mul-j
+    add-j
+    mul-unpack
+    element-copy-out-unpack
+    unpack-requires
+    hit-requires
+    returns
+    load-miss-requires
+    returns-2)

@@ -1,0 +1,77 @@
+use borrow.Author.Tests.{eq-eqb, ne-eqb}
+use Rattle.machine.specs.Store.{storeLine}
+use borrow.Author.Needs.{needs}
+use Rattle.plain.proofs.store_line.Statement.{statement}
+use Rattle.plain.proofs.store_line.Tie as tie
+
+home-requires : tie.Need-home-requires
+home-requires c κs = search needs
+
+mul-j : tie.Need-mul-j
+mul-j c = search needs
+
+add-j : tie.Need-add-j
+add-j c = search needs
+
+mul-unpack : tie.Need-mul-unpack
+mul-unpack c = search needs
+
+element-copy-out-unpack : tie.Need-element-copy-out-unpack
+element-copy-out-unpack c = search needs
+
+unpack-requires : tie.Need-unpack-requires
+unpack-requires c κs = search needs
+
+holds-requires : tie.Need-holds-requires
+holds-requires c κs = search needs
+
+store-through-requires : tie.Need-store-through-requires
+store-through-requires c κs = search needs
+
+returns : tie.Need-returns
+unfolding storeLine
+returns c = rw (← c .before .before .before .before .before .before .before .before .before .before .before .home .ensures, ← (rw (c .before .before .before .before .before .before .before .before .before .unpack .ensures) at (c .before .before .before .before .before .before .before .before .holds .ensures)), c .before .before .before .before .before .before .before .if1 .taken, eq-eqb _ _ (rw (c .before .before .before .before .before .before .before .before .before .unpack .ensures) at (c .before .before .before .before .before .if2 .taken))) (c .store-through .ensures)
+
+pack-requires : tie.Need-pack-requires
+pack-requires c κs = search needs
+
+mul-lines : tie.Need-mul-lines
+mul-lines c = search needs
+
+element-write-lines : tie.Need-element-write-lines
+element-write-lines c = search needs
+
+stored-requires : tie.Need-stored-requires
+stored-requires c κs = search needs
+
+returns-2 : tie.Need-returns-2
+unfolding storeLine
+returns-2 c = rw (← c .before .before .before .before .before .before .before .before .home .ensures, ← (rw (c .before .before .before .before .before .before .unpack .ensures) at (c .before .before .before .before .before .holds .ensures)), c .before .before .before .before .if1 .taken, ne-eqb _ _ (rw (c .before .before .before .before .before .before .unpack .ensures) at (c .before .before .if2 .left)), c .before .pack .ensures, c .stored .ensures)
+
+store-miss-requires : tie.Need-store-miss-requires
+store-miss-requires c κs = search needs
+
+returns-3 : tie.Need-returns-3
+unfolding storeLine
+returns-3 c = rw (← c .before .before .before .before .before .before .before .before .before .home .ensures, ← (rw (c .before .before .before .before .before .before .before .unpack .ensures) at (c .before .before .before .before .before .before .holds .ensures)), c .before .before .before .before .before .if1 .left) (c .store-miss .ensures)
+
+pub store-line-spec : {M : Type 1} → statement M
+store-line-spec =
+    tie.close
+    (tie.spec
+    home-requires
+    mul-j
+    add-j
+    mul-unpack
+    element-copy-out-unpack
+    unpack-requires
+    holds-requires
+    store-through-requires
+    returns
+    pack-requires
+    mul-lines
+    element-write-lines
+    stored-requires
+    returns-2
+    store-miss-requires
+    returns-3)

@@ -1,0 +1,315 @@
+// LOAD and STORE on the lent arrays.
+
+use entry::Entry;
+use entry::answer::Answer;
+use entry::answer::Answered;
+use entry::answer::Counts;
+use entry::numbers::DIRTY;
+use entry::numbers::INVALID;
+use entry::numbers::NORMAL;
+use entry::numbers::READ;
+use entry::numbers::RESERVED;
+use entry::numbers::RFO;
+use entry::numbers::TENTATIVE;
+use entry::numbers::VALID;
+use entry::numbers::WRITE;
+use machine::Copies;
+use machine::Dims;
+use machine::Flags;
+use machine::Memory;
+ghost use mathlib.Core.Path.{_≡_};
+ghost use mathlib.Core.List.{List};
+ghost use Prim.Native.Nat.{ℕ, _+_};
+ghost use Rattle.entry.specs.declared.answer.Answer.the-variants.{Value, Done};
+ghost use Rattle.entry.specs.Numbers.{READ, RFO, WRITE};
+ghost use Rattle.entry.specs.Answer.{answered, asked, quiet, noCycles};
+ghost use Rattle.machine.specs.State.{caches, outcome, counted};
+ghost use Rattle.machine.specs.Load.{loadMiss, loadOn, load};
+ghost use Rattle.machine.specs.Store.{rollOwn, dropNormal, storeThrough, storeMiss, storeLine, store};
+
+// VALUE with no cycles.
+fn hit(v: u32) -> Answered
+    ensures { λ r. ⌜ r ≡ answered (Value v) noCycles ⌝ }
+{
+    let c = Counts {
+        read: 0,
+        rfo: 0,
+        write: 0,
+        t_read: 0,
+        t_rfo: 0,
+        busy: 0,
+    };
+    Answered {
+        answer: Answer::Value(v),
+        counts: c,
+    }
+}
+
+fn loaded(v: u32, w: u8) -> Answered
+    ensures { λ r. ⌜ r ≡ answered (Value v) (asked READ w 0) ⌝ }
+{
+    let c = Counts {
+        read: 1,
+        rfo: 0,
+        write: w as u32,
+        t_read: 0,
+        t_rfo: 0,
+        busy: 0,
+    };
+    Answered {
+        answer: Answer::Value(v),
+        counts: c,
+    }
+}
+
+fn stored(w: u8) -> Answered
+    ensures { λ r. ⌜ r ≡ answered Done (quiet w) ⌝ }
+{
+    let c = Counts {
+        read: 0,
+        rfo: 0,
+        write: w as u32,
+        t_read: 0,
+        t_rfo: 0,
+        busy: 0,
+    };
+    Answered {
+        answer: Answer::Done,
+        counts: c,
+    }
+}
+
+fn stored_through(w: u8) -> Answered
+    ensures { λ r. ⌜ r ≡ answered Done (asked WRITE w 0) ⌝ }
+{
+    let c = Counts {
+        read: 0,
+        rfo: 0,
+        write: (w as u32) + 1,
+        t_read: 0,
+        t_rfo: 0,
+        busy: 0,
+    };
+    Answered {
+        answer: Answer::Done,
+        counts: c,
+    }
+}
+
+fn stored_alone(w1: u8, w2: u8) -> Answered
+    ensures { λ r. ⌜ r ≡ answered Done (asked RFO (w1 + w2) 0) ⌝ }
+{
+    let w = (w1 as u32) + (w2 as u32);
+    let c = Counts {
+        read: 0,
+        rfo: 1,
+        write: w,
+        t_read: 0,
+        t_rfo: 0,
+        busy: 0,
+    };
+    Answered {
+        answer: Answer::Done,
+        counts: c,
+    }
+}
+
+fn load_miss(
+    memory: &mut Memory,
+    lines: &mut Copies,
+    entries: &mut Copies,
+    flags: &mut Flags,
+    d: Dims,
+    p: usize,
+    word: u8,
+) -> Answered
+    ensures { λ r. ⌜ outcome r (caches (now (memory .exit)) (now (lines .exit)) (now (entries .exit)) (now (flags .exit))) ≡ loadMiss d p word (caches (now (memory .entry)) (now (lines .entry)) (now (entries .entry)) (now (flags .entry))) ⌝ }
+{
+    let i = caches::home(d, word);
+    let w = caches::clear(memory, lines, p, i);
+    snoop::plain_request(memory, lines, entries, flags, d, p, word, READ);
+    let a = word as usize;
+    let v = memory[a];
+    let e = Entry {
+        state: VALID,
+        tag: INVALID,
+        word: word,
+        data: v,
+    };
+    let j = p % 8 * 64 + i % 64;
+    lines[j] = e.pack();
+    loaded(v, w)
+}
+
+fn load_on(
+    memory: &mut Memory,
+    lines: &mut Copies,
+    entries: &mut Copies,
+    flags: &mut Flags,
+    d: Dims,
+    p: usize,
+    word: u8,
+) -> Answered
+    ensures { λ r. ⌜ outcome r (caches (now (memory .exit)) (now (lines .exit)) (now (entries .exit)) (now (flags .exit))) ≡ loadOn d p word (caches (now (memory .entry)) (now (lines .entry)) (now (entries .entry)) (now (flags .entry))) ⌝ }
+{
+    let i = caches::find_entry(entries, p, d.entries, NORMAL, word);
+    if i < d.entries {
+        let j = p % 8 * 64 + i % 64;
+        let e = Entry::unpack(entries[j]);
+        return hit(e.data);
+    }
+    load_miss(memory, lines, entries, flags, d, p, word)
+}
+
+pub fn load(
+    memory: &mut Memory,
+    lines: &mut Copies,
+    entries: &mut Copies,
+    flags: &mut Flags,
+    d: Dims,
+    p: usize,
+    word: u8,
+) -> Answered
+    ensures { λ r. ⌜ outcome r (caches (now (memory .exit)) (now (lines .exit)) (now (entries .exit)) (now (flags .exit))) ≡ load d p word (caches (now (memory .entry)) (now (lines .entry)) (now (entries .entry)) (now (flags .entry))) ⌝ }
+{
+    let h = caches::home(d, word);
+    let j = p % 8 * 64 + h % 64;
+    let line = Entry::unpack(lines[j]);
+    if caches::holds(line, word) {
+        return hit(line.data);
+    }
+    let i = caches::find_entry(entries, p, d.entries, TENTATIVE, word);
+    if i >= d.entries {
+        return load_on(memory, lines, entries, flags, d, p, word);
+    }
+    let k = p % 8 * 64 + i % 64;
+    let tentative = Entry::unpack(entries[k]);
+    if tentative.state == VALID {
+        return hit(tentative.data);
+    }
+    caches::rollback(entries, flags, p, d.entries);
+    load_on(memory, lines, entries, flags, d, p, word)
+}
+
+fn roll_own(entries: &mut Copies, flags: &mut Flags, d: Dims, p: usize, word: u8)
+    ensures { λ r. ⌜ ((m l : List ℕ) → caches m l (now (entries .exit)) (now (flags .exit)) ≡ rollOwn d p word (caches m l (now (entries .entry)) (now (flags .entry)))) ⌝ }
+{
+    let i = caches::find_entry(entries, p, d.entries, TENTATIVE, word);
+    if i < d.entries {
+        caches::rollback(entries, flags, p, d.entries);
+    }
+}
+
+fn drop_normal(memory: &mut Memory, entries: &mut Copies, d: Dims, p: usize, word: u8) -> u8
+    ensures { λ r. ⌜ ((l f : List ℕ) → counted r (caches (now (memory .exit)) l (now (entries .exit)) f) ≡ dropNormal d p word (caches (now (memory .entry)) l (now (entries .entry)) f)) ⌝ }
+{
+    let i = caches::find_entry(entries, p, d.entries, NORMAL, word);
+    if i < d.entries {
+        return caches::clear(memory, entries, p, i);
+    }
+    0
+}
+
+fn store_through(
+    memory: &mut Memory,
+    lines: &mut Copies,
+    entries: &mut Copies,
+    flags: &mut Flags,
+    d: Dims,
+    p: usize,
+    word: u8,
+    v: u32,
+    w: u8,
+) -> Answered
+    ensures { λ r. ⌜ outcome r (caches (now (memory .exit)) (now (lines .exit)) (now (entries .exit)) (now (flags .exit))) ≡ storeThrough d p word v w (caches (now (memory .entry)) (now (lines .entry)) (now (entries .entry)) (now (flags .entry))) ⌝ }
+{
+    snoop::plain_request(memory, lines, entries, flags, d, p, word, WRITE);
+    let a = word as usize;
+    memory[a] = v;
+    let e = Entry {
+        state: RESERVED,
+        tag: INVALID,
+        word: word,
+        data: v,
+    };
+    let i = caches::home(d, word);
+    let j = p % 8 * 64 + i % 64;
+    lines[j] = e.pack();
+    stored_through(w)
+}
+
+fn store_miss(
+    memory: &mut Memory,
+    lines: &mut Copies,
+    entries: &mut Copies,
+    flags: &mut Flags,
+    d: Dims,
+    p: usize,
+    word: u8,
+    v: u32,
+    w: u8,
+) -> Answered
+    ensures { λ r. ⌜ outcome r (caches (now (memory .exit)) (now (lines .exit)) (now (entries .exit)) (now (flags .exit))) ≡ storeMiss d p word v w (caches (now (memory .entry)) (now (lines .entry)) (now (entries .entry)) (now (flags .entry))) ⌝ }
+{
+    let i = caches::home(d, word);
+    let w2 = caches::clear(memory, lines, p, i);
+    snoop::plain_request(memory, lines, entries, flags, d, p, word, RFO);
+    let e = Entry {
+        state: DIRTY,
+        tag: INVALID,
+        word: word,
+        data: v,
+    };
+    let j = p % 8 * 64 + i % 64;
+    lines[j] = e.pack();
+    stored_alone(w, w2)
+}
+
+fn store_line(
+    memory: &mut Memory,
+    lines: &mut Copies,
+    entries: &mut Copies,
+    flags: &mut Flags,
+    d: Dims,
+    p: usize,
+    word: u8,
+    v: u32,
+    w: u8,
+) -> Answered
+    ensures { λ r. ⌜ outcome r (caches (now (memory .exit)) (now (lines .exit)) (now (entries .exit)) (now (flags .exit))) ≡ storeLine d p word v (counted w (caches (now (memory .entry)) (now (lines .entry)) (now (entries .entry)) (now (flags .entry)))) ⌝ }
+{
+    let i = caches::home(d, word);
+    let j = p % 8 * 64 + i % 64;
+    let line = Entry::unpack(lines[j]);
+    if caches::holds(line, word) {
+        if line.state == VALID {
+            return store_through(memory, lines, entries, flags, d, p, word, v, w);
+        }
+        let e = Entry {
+            state: DIRTY,
+            tag: INVALID,
+            word: word,
+            data: v,
+        };
+        lines[j] = e.pack();
+        return stored(w);
+    }
+    store_miss(memory, lines, entries, flags, d, p, word, v, w)
+}
+
+pub fn store(
+    memory: &mut Memory,
+    lines: &mut Copies,
+    entries: &mut Copies,
+    flags: &mut Flags,
+    d: Dims,
+    p: usize,
+    word: u8,
+    v: u32,
+) -> Answered
+    ensures { λ r. ⌜ outcome r (caches (now (memory .exit)) (now (lines .exit)) (now (entries .exit)) (now (flags .exit))) ≡ store d p word v (caches (now (memory .entry)) (now (lines .entry)) (now (entries .entry)) (now (flags .entry))) ⌝ }
+{
+    roll_own(entries, flags, d, p, word);
+    let w = drop_normal(memory, entries, d, p, word);
+    store_line(memory, lines, entries, flags, d, p, word, v, w)
+}

@@ -1,0 +1,54 @@
+use Rattle.machine.specs.Bus.{snoopOne, snoop}
+use Prim.Native.Nat.{_≤_, _-_}
+use mathlib.Core.Path.{_≡_, _∙_, sym}
+use native.Mathlib.Nat.{sub-zero}
+use Prim.Native.Nat.{ℕ}
+use mathlib.Core.List.{List}
+use Rattle.laws.specs.Fold.{foldRange, fold-end, fold-turn}
+use Rattle.machine.specs.State.{caches}
+use Rattle.machine.specs.Own.{home}
+use borrow.Author.Needs.{needs}
+use Rattle.snoop.proofs.snoop.Statement.{statement}
+use Rattle.snoop.proofs.snoop.Tie as tie
+
+abbrev Inv-loop : tie.InvT-loop
+Inv-loop memory₀ lines₀ entries₀ d p word cycle i n q₀ memory lines entries q = (q ≤ n) × ((f : List ℕ) → foldRange (snoopOne d i p word cycle) q (n - q) (caches memory lines entries f) ≡ foldRange (snoopOne d i p word cycle) 0 n (caches memory₀ lines₀ entries₀ f))
+
+abbrev μ-loop : tie.MeasureT-loop
+μ-loop memory₀ lines₀ entries₀ d p word cycle i n q₀ memory lines entries q = n - q
+
+home-requires : tie.Need-home-requires Inv-loop μ-loop
+home-requires c κs = search needs
+
+loop-holds : tie.Need-loop-holds Inv-loop μ-loop
+loop-holds c = (search needs, λ f. rw sub-zero)
+
+snoop-one-requires : tie.Need-snoop-one-requires Inv-loop μ-loop
+snoop-one-requires c κs = search needs
+
+add-q : tie.Need-add-q Inv-loop μ-loop
+add-q c = search needs
+
+loop-less : tie.Need-loop-less Inv-loop μ-loop
+loop-less c = search needs
+
+loop-again : tie.Need-loop-again Inv-loop μ-loop
+loop-again c = (search needs, λ f. rw (c .snoop-one .ensures f) (sym (fold-turn _ _ _ _ (search needs)) ∙ c .before .before .before .before .before .loop .inv .1 f))
+
+returns : tie.Need-returns Inv-loop μ-loop
+unfolding snoop
+returns c = λ f. rw (← c .before .before .home .ensures) (sym (fold-end _ _ _ _ (search needs)) ∙ c .before .loop .inv .1 f)
+
+pub snoop-spec : {M : Type 1} → statement M
+snoop-spec =
+    tie.close
+    (tie.spec
+    Inv-loop
+    μ-loop
+    home-requires
+    loop-holds
+    snoop-one-requires
+    add-q
+    loop-less
+    loop-again
+    returns)

@@ -1,0 +1,63 @@
+use Rattle.machine.specs.Bus.{snoopLine}
+use borrow.Author.Needs.{needs}
+use Rattle.snoop.proofs.snoop_line.Statement.{statement}
+use Rattle.snoop.proofs.snoop_line.Tie as tie
+
+mul-j : tie.Need-mul-j
+mul-j c = search needs
+
+add-j : tie.Need-add-j
+add-j c = search needs
+
+mul-unpack : tie.Need-mul-unpack
+mul-unpack c = search needs
+
+element-copy-out-unpack : tie.Need-element-copy-out-unpack
+element-copy-out-unpack c = search needs
+
+unpack-requires : tie.Need-unpack-requires
+unpack-requires c κs = search needs
+
+holds-requires : tie.Need-holds-requires
+holds-requires c κs = search needs
+
+write-back-requires : tie.Need-write-back-requires
+write-back-requires c κs = search needs
+
+snooped-requires : tie.Need-snooped-requires
+snooped-requires c κs = search needs
+
+pack-requires : tie.Need-pack-requires
+pack-requires c κs = search needs
+
+mul-lines : tie.Need-mul-lines
+mul-lines c = search needs
+
+element-write-lines : tie.Need-element-write-lines
+element-write-lines c = search needs
+
+returns : tie.Need-returns
+unfolding snoopLine
+returns c = λ e f. let u = c .before .before .before .before .before .before .unpack .ensures in rw (← (rw u at (c .before .before .before .before .before .holds .ensures)), c .before .before .before .before .if1 .taken, c .pack .ensures, c .before .snooped .ensures, c .before .before .write-back .ensures .0, u)
+
+returns-2 : tie.Need-returns-2
+unfolding snoopLine
+returns-2 c = λ e f. rw (← (rw (c .before .before .unpack .ensures) at (c .before .holds .ensures)), c .if1 .left)
+
+pub snoop-line-spec : {M : Type 1} → statement M
+snoop-line-spec =
+    tie.close
+    (tie.spec
+    mul-j
+    add-j
+    mul-unpack
+    element-copy-out-unpack
+    unpack-requires
+    holds-requires
+    write-back-requires
+    snooped-requires
+    pack-requires
+    mul-lines
+    element-write-lines
+    returns
+    returns-2)

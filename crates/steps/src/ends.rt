@@ -1,0 +1,85 @@
+// COMMIT, ABORT, VALIDATE and INTERRUPT, which use the entries and the flags alone.
+
+use entry::answer::Answer;
+use entry::answer::Answered;
+use entry::answer::Counts;
+use machine::Copies;
+use machine::Dims;
+use machine::Flags;
+ghost use mathlib.Core.Path.{_≡_};
+ghost use mathlib.Core.List.{List};
+ghost use Prim.Native.Nat.{ℕ};
+ghost use Rattle.entry.specs.Answer.{answered, noCycles, refusedBy};
+ghost use Rattle.machine.specs.State.{caches, outcome};
+ghost use Rattle.machine.specs.Refusals.{noSuchStep};
+ghost use Rattle.machine.specs.Ends.{commit, abort, validate, interrupt};
+
+fn told(answer: Answer) -> Answered
+    ensures { λ r. ⌜ r ≡ answered answer noCycles ⌝ }
+{
+    let c = Counts {
+        read: 0,
+        rfo: 0,
+        write: 0,
+        t_read: 0,
+        t_rfo: 0,
+        busy: 0,
+    };
+    Answered {
+        answer: answer,
+        counts: c,
+    }
+}
+
+pub fn no_such_step() -> Answered
+    ensures { λ r. ⌜ r ≡ refusedBy noSuchStep ⌝ }
+{
+    told(Answer::Refused(6))
+}
+
+pub fn commit(entries: &mut Copies, flags: &mut Flags, d: Dims, p: usize) -> Answered
+    ensures { λ r. ⌜ ((m l : List ℕ) → outcome r (caches m l (now (entries .exit)) (now (flags .exit))) ≡ commit d p (caches m l (now (entries .entry)) (now (flags .entry)))) ⌝ }
+{
+    let active = p % 8;
+    let status = 8 + p % 8;
+    if flags[status] == 0 {
+        flags[active] = 0;
+        flags[status] = 1;
+        return told(Answer::Failure);
+    }
+    caches::commit_entries(entries, p, d.entries);
+    flags[active] = 0;
+    flags[status] = 1;
+    told(Answer::Success)
+}
+
+pub fn abort(entries: &mut Copies, flags: &mut Flags, d: Dims, p: usize) -> Answered
+    ensures { λ r. ⌜ ((m l : List ℕ) → outcome r (caches m l (now (entries .exit)) (now (flags .exit))) ≡ abort d p (caches m l (now (entries .entry)) (now (flags .entry)))) ⌝ }
+{
+    caches::rollback(entries, flags, p, d.entries);
+    let active = p % 8;
+    let status = 8 + p % 8;
+    flags[active] = 0;
+    flags[status] = 1;
+    told(Answer::Done)
+}
+
+pub fn validate(entries: &mut Copies, flags: &mut Flags, p: usize) -> Answered
+    ensures { λ r. ⌜ ((m l : List ℕ) → outcome r (caches m l (now (entries .exit)) (now (flags .exit))) ≡ validate p (caches m l (now (entries .entry)) (now (flags .entry)))) ⌝ }
+{
+    let active = p % 8;
+    let status = 8 + p % 8;
+    if flags[status] == 0 {
+        flags[active] = 0;
+        flags[status] = 1;
+        return told(Answer::False);
+    }
+    told(Answer::True)
+}
+
+pub fn interrupt(entries: &mut Copies, flags: &mut Flags, d: Dims, p: usize) -> Answered
+    ensures { λ r. ⌜ ((m l : List ℕ) → outcome r (caches m l (now (entries .exit)) (now (flags .exit))) ≡ interrupt d p (caches m l (now (entries .entry)) (now (flags .entry)))) ⌝ }
+{
+    caches::rollback(entries, flags, p, d.entries);
+    told(Answer::Done)
+}

@@ -1,0 +1,50 @@
+use Rattle.machine.specs.Transact.{finish, fill}
+use borrow.Author.Needs.{needs}
+use Rattle.transact.proofs.fill.Statement.{statement}
+use Rattle.transact.proofs.fill.Tie as tie
+
+filled-state-requires : tie.Need-filled-state-requires
+filled-state-requires c κs = search needs
+
+mul-j : tie.Need-mul-j
+mul-j c = search needs
+
+add-j : tie.Need-add-j
+add-j c = search needs
+
+pack-requires : tie.Need-pack-requires
+pack-requires c κs = search needs
+
+mul-entries : tie.Need-mul-entries
+mul-entries c = search needs
+
+element-write-entries : tie.Need-element-write-entries
+element-write-entries c = search needs
+
+fill-backup-requires : tie.Need-fill-backup-requires
+fill-backup-requires c κs = search needs
+
+request-counts-requires : tie.Need-request-counts-requires
+request-counts-requires c κs = search needs
+
+finish-requires : tie.Need-finish-requires
+finish-requires c κs = search needs
+
+returns : tie.Need-returns
+unfolding fill
+returns c = λ m l f. rw (← c .before .before .before .before .before .before .filled-state .ensures, ← c .before .before .before .before .before .pack .ensures, ← c .before .before .before .fill-backup .ensures, ← c .before .request-counts .ensures) (c .finish .ensures _ _ _)
+
+pub fill-spec : {M : Type 1} → statement M
+fill-spec =
+    tie.close
+    (tie.spec
+    filled-state-requires
+    mul-j
+    add-j
+    pack-requires
+    mul-entries
+    element-write-entries
+    fill-backup-requires
+    request-counts-requires
+    finish-requires
+    returns)

@@ -1,0 +1,114 @@
+use borrow.Author.Tests.{eq-eqb, ne-eqb}
+use Rattle.machine.specs.Transact.{finish, hit}
+use borrow.Author.Needs.{needs}
+use Rattle.transact.proofs.hit.Statement.{statement}
+use Rattle.transact.proofs.hit.Tie as tie
+
+add-w : tie.Need-add-w
+add-w c = search needs
+
+quiet-counts-requires : tie.Need-quiet-counts-requires
+quiet-counts-requires c κs = search needs
+
+finish-requires : tie.Need-finish-requires
+finish-requires c κs = search needs
+
+returns : tie.Need-returns
+unfolding hit
+returns c = rw (eq-eqb _ _ (c .before .before .before .if1 .taken), ← c .before .quiet-counts .ensures) (c .finish .ensures _ _ _)
+
+mul-j : tie.Need-mul-j
+mul-j c = search needs
+
+add-j : tie.Need-add-j
+add-j c = search needs
+
+mul-unpack : tie.Need-mul-unpack
+mul-unpack c = search needs
+
+element-copy-out-unpack : tie.Need-element-copy-out-unpack
+element-copy-out-unpack c = search needs
+
+unpack-requires : tie.Need-unpack-requires
+unpack-requires c κs = search needs
+
+quiet-counts-requires-2 : tie.Need-quiet-counts-requires-2
+quiet-counts-requires-2 c κs = search needs
+
+finish-requires-2 : tie.Need-finish-requires-2
+finish-requires-2 c κs = search needs
+
+returns-2 : tie.Need-returns-2
+unfolding hit
+returns-2 c = rw (ne-eqb _ _ (c .before .before .before .before .before .before .before .if1 .left), ne-eqb _ _ (rw (c .before .before .before .before .before .unpack .ensures) at (c .before .before .before .if2 .taken)), ← c .before .quiet-counts2 .ensures) (c .finish2 .ensures _ _ _)
+
+refuses-requires : tie.Need-refuses-requires
+refuses-requires c κs = search needs
+
+rollback-requires : tie.Need-rollback-requires
+rollback-requires c κs = search needs
+
+upgrade-counts-requires : tie.Need-upgrade-counts-requires
+upgrade-counts-requires c κs = search needs
+
+aborted-requires : tie.Need-aborted-requires
+aborted-requires c κs = search needs
+
+returns-3 : tie.Need-returns-3
+unfolding hit
+returns-3 c = rw (ne-eqb _ _ (c .before .before .before .before .before .before .before .before .before .before .before .before .if1 .left), eq-eqb _ _ (rw (c .before .before .before .before .before .before .before .before .before .before .unpack .ensures) at (c .before .before .before .before .before .before .before .before .if2 .left)), ← c .before .before .before .before .before .before .refuses .ensures, c .before .before .before .before .before .if3 .taken, c .aborted .ensures, c .before .upgrade-counts .ensures, ← c .before .before .rollback .ensures .0, ← c .before .before .rollback .ensures .1)
+
+snoop-requires : tie.Need-snoop-requires
+snoop-requires c κs = search needs
+
+with-state-requires : tie.Need-with-state-requires
+with-state-requires c κs = search needs
+
+pack-requires : tie.Need-pack-requires
+pack-requires c κs = search needs
+
+mul-entries : tie.Need-mul-entries
+mul-entries c = search needs
+
+element-write-entries : tie.Need-element-write-entries
+element-write-entries c = search needs
+
+upgrade-counts-requires-2 : tie.Need-upgrade-counts-requires-2
+upgrade-counts-requires-2 c κs = search needs
+
+finish-requires-3 : tie.Need-finish-requires-3
+finish-requires-3 c κs = search needs
+
+returns-4 : tie.Need-returns-4
+unfolding hit
+returns-4 c = let k = rw (c .before .before .before .before .with-state .ensures, c .before .before .before .before .before .before .before .before .before .before .before .before .before .before .unpack .ensures) at (c .before .before .before .pack .ensures) in rw (ne-eqb _ _ (c .before .before .before .before .before .before .before .before .before .before .before .before .before .before .before .before .if1 .left), eq-eqb _ _ (rw (c .before .before .before .before .before .before .before .before .before .before .before .before .before .before .unpack .ensures) at (c .before .before .before .before .before .before .before .before .before .before .before .before .if2 .left)), ← c .before .before .before .before .before .before .before .before .before .before .refuses .ensures, c .before .before .before .before .before .before .before .before .before .if3 .left, ← c .before .upgrade-counts2 .ensures) (rw (← c .before .before .before .before .before .snoop .ensures _, ← k) (c .finish3 .ensures _ _ _))
+
+pub hit-spec : {M : Type 1} → statement M
+hit-spec =
+    tie.close
+    (tie.spec
+    add-w
+    quiet-counts-requires
+    finish-requires
+    returns
+    mul-j
+    add-j
+    mul-unpack
+    element-copy-out-unpack
+    unpack-requires
+    quiet-counts-requires-2
+    finish-requires-2
+    returns-2
+    refuses-requires
+    rollback-requires
+    upgrade-counts-requires
+    aborted-requires
+    returns-3
+    snoop-requires
+    with-state-requires
+    pack-requires
+    mul-entries
+    element-write-entries
+    upgrade-counts-requires-2
+    finish-requires-3
+    returns-4)

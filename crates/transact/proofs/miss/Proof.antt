@@ -1,0 +1,40 @@
+use borrow.Author.Tests.{lt-ltb, le-ltb}
+use Rattle.machine.specs.Transact.{miss}
+use borrow.Author.Needs.{needs}
+use Rattle.transact.proofs.miss.Statement.{statement}
+use Rattle.transact.proofs.miss.Tie as tie
+
+free-slot-requires : tie.Need-free-slot-requires
+free-slot-requires c κs = search needs
+
+miss-at-requires : tie.Need-miss-at-requires
+miss-at-requires c κs = search needs
+
+returns : tie.Need-returns
+unfolding miss
+returns c = rw (← c .before .before .before .before .before .before .free-slot .ensures, lt-ltb _ _ (c .before .before .before .before .before .if1 .taken)) (c .miss-at .ensures)
+
+rollback-requires : tie.Need-rollback-requires
+rollback-requires c κs = search needs
+
+quiet-counts-requires : tie.Need-quiet-counts-requires
+quiet-counts-requires c κs = search needs
+
+aborted-requires : tie.Need-aborted-requires
+aborted-requires c κs = search needs
+
+returns-2 : tie.Need-returns-2
+unfolding miss
+returns-2 c = rw (← c .before .before .before .before .before .before .free-slot .ensures, le-ltb _ _ (c .before .before .before .before .before .if1 .left), c .aborted .ensures, c .before .quiet-counts .ensures, ← c .before .before .rollback .ensures .0, ← c .before .before .rollback .ensures .1)
+
+pub miss-spec : {M : Type 1} → statement M
+miss-spec =
+    tie.close
+    (tie.spec
+    free-slot-requires
+    miss-at-requires
+    returns
+    rollback-requires
+    quiet-counts-requires
+    aborted-requires
+    returns-2)

@@ -1,0 +1,55 @@
+use Rattle.machine.specs.Transact.{fill, request}
+use borrow.Author.Needs.{needs}
+use Rattle.transact.proofs.request.Statement.{statement}
+use Rattle.transact.proofs.request.Tie as tie
+
+request-of-requires : tie.Need-request-of-requires
+request-of-requires c κs = search needs
+
+refuses-requires : tie.Need-refuses-requires
+refuses-requires c κs = search needs
+
+rollback-requires : tie.Need-rollback-requires
+rollback-requires c κs = search needs
+
+request-counts-requires : tie.Need-request-counts-requires
+request-counts-requires c κs = search needs
+
+aborted-requires : tie.Need-aborted-requires
+aborted-requires c κs = search needs
+
+returns : tie.Need-returns
+unfolding request
+returns c = rw (c .aborted .ensures, c .before .request-counts .ensures, ← c .before .before .before .before .before .before .before .before .request-of .ensures, ← c .before .before .before .before .before .before .refuses .ensures, c .before .before .before .before .before .if1 .taken, ← c .before .before .rollback .ensures .0, ← c .before .before .rollback .ensures .1)
+
+snoop-requires : tie.Need-snoop-requires
+snoop-requires c κs = search needs
+
+mul-supplied : tie.Need-mul-supplied
+mul-supplied c = search needs
+
+element-copy-out-supplied : tie.Need-element-copy-out-supplied
+element-copy-out-supplied c = search needs
+
+fill-requires : tie.Need-fill-requires
+fill-requires c κs = search needs
+
+returns-2 : tie.Need-returns-2
+unfolding request
+returns-2 c = rw (← c .before .before .before .before .before .before .before .before .before .before .request-of .ensures, ← c .before .before .before .before .before .before .before .before .refuses .ensures, c .before .before .before .before .before .before .before .if1 .left) (rw (← c .before .before .before .snoop .ensures _) (c .fill .ensures _ _ _))
+
+pub request-spec : {M : Type 1} → statement M
+request-spec =
+    tie.close
+    (tie.spec
+    request-of-requires
+    refuses-requires
+    rollback-requires
+    request-counts-requires
+    aborted-requires
+    returns
+    snoop-requires
+    mul-supplied
+    element-copy-out-supplied
+    fill-requires
+    returns-2)

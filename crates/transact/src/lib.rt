@@ -1,0 +1,374 @@
+// LT, LTX and ST on the lent arrays.
+
+use entry::Entry;
+use entry::answer::Answer;
+use entry::answer::Answered;
+use entry::answer::Counts;
+use entry::numbers::BACKUP;
+use entry::numbers::DIRTY;
+use entry::numbers::LT;
+use entry::numbers::NORMAL;
+use entry::numbers::RESERVED;
+use entry::numbers::ST;
+use entry::numbers::T_READ;
+use entry::numbers::T_RFO;
+use entry::numbers::TENTATIVE;
+use entry::numbers::VALID;
+use machine::Copies;
+use machine::Dims;
+use machine::Flags;
+use machine::Memory;
+ghost use mathlib.Core.Path.{_≡_};
+ghost use mathlib.Core.List.{List};
+ghost use Prim.Native.Nat.{ℕ, _+_};
+ghost use lib.Dec.{eqb};
+ghost use Rattle.laws.specs.Choice.{pick};
+ghost use Rattle.entry.specs.declared.answer.Answer.the-variants.{Aborted};
+ghost use Rattle.entry.specs.Numbers.{VALID, RESERVED, DIRTY, LT, T-RFO};
+ghost use Rattle.entry.specs.Answer.{answered, asked, quiet, noCycles};
+ghost use Rattle.machine.specs.State.{caches, outcome, counted};
+ghost use Rattle.machine.specs.Transact.{dropLine, finish, requestOf, hit, openNormal, clearBackup, fillBackup, fill, request, missAt, miss, seek, transact};
+
+fn quiet_counts(w: u32) -> Counts
+    ensures { λ r. ⌜ r ≡ quiet w ⌝ }
+{
+    Counts {
+        read: 0,
+        rfo: 0,
+        write: w,
+        t_read: 0,
+        t_rfo: 0,
+        busy: 0,
+    }
+}
+
+fn upgrade_counts(w: u32, busy: u32) -> Counts
+    ensures { λ r. ⌜ r ≡ asked T-RFO w busy ⌝ }
+{
+    Counts {
+        read: 0,
+        rfo: 0,
+        write: w,
+        t_read: 0,
+        t_rfo: 1,
+        busy: busy,
+    }
+}
+
+fn request_counts(op: u8, w: u32, busy: u32) -> Counts
+    ensures { λ r. ⌜ r ≡ asked (requestOf op) w busy ⌝ }
+{
+    if op == LT {
+        return Counts {
+            read: 0,
+            rfo: 0,
+            write: w,
+            t_read: 1,
+            t_rfo: 0,
+            busy: busy,
+        };
+    }
+    Counts {
+        read: 0,
+        rfo: 0,
+        write: w,
+        t_read: 0,
+        t_rfo: 1,
+        busy: busy,
+    }
+}
+
+fn request_of(op: u8) -> u8
+    ensures { λ r. ⌜ r ≡ requestOf op ⌝ }
+{
+    if op == LT {
+        return T_READ;
+    }
+    T_RFO
+}
+
+fn filled_state(op: u8) -> u8
+    ensures { λ r. ⌜ r ≡ pick (eqb op LT) VALID RESERVED ⌝ }
+{
+    if op == LT {
+        return VALID;
+    }
+    RESERVED
+}
+
+fn written_state(state: u8) -> u8
+    ensures { λ r. ⌜ r ≡ pick (eqb state DIRTY) RESERVED state ⌝ }
+{
+    if state == DIRTY {
+        return RESERVED;
+    }
+    state
+}
+
+fn aborted(c: Counts) -> Answered
+    ensures { λ r. ⌜ r ≡ answered Aborted c ⌝ }
+{
+    Answered {
+        answer: Answer::Aborted,
+        counts: c,
+    }
+}
+
+fn drop_line(memory: &mut Memory, lines: &mut Copies, d: Dims, p: usize, word: u8) -> u8
+    ensures { λ r. ⌜ ((e f : List ℕ) → counted r (caches (now (memory .exit)) (now (lines .exit)) e f) ≡ dropLine d p word (caches (now (memory .entry)) (now (lines .entry)) e f)) ⌝ }
+{
+    let i = caches::home(d, word);
+    let j = p % 8 * 64 + i % 64;
+    let line = Entry::unpack(lines[j]);
+    if caches::holds(line, word) {
+        return caches::clear(memory, lines, p, i);
+    }
+    0
+}
+
+fn finish(entries: &mut Copies, op: u8, p: usize, i: usize, v: u32, c: Counts) -> Answered
+    ensures { λ r. ⌜ ((m l f : List ℕ) → outcome r (caches m l (now (entries .exit)) f) ≡ finish op p i v c (caches m l (now (entries .entry)) f)) ⌝ }
+{
+    let j = p % 8 * 64 + i % 64;
+    let e = Entry::unpack(entries[j]);
+    if op == ST {
+        let f = e.stored(v);
+        entries[j] = f.pack();
+        return Answered {
+            answer: Answer::Done,
+            counts: c,
+        };
+    }
+    Answered {
+        answer: Answer::Value(e.data),
+        counts: c,
+    }
+}
+
+fn hit(
+    memory: &mut Memory,
+    lines: &mut Copies,
+    entries: &mut Copies,
+    flags: &mut Flags,
+    d: Dims,
+    op: u8,
+    p: usize,
+    i: usize,
+    word: u8,
+    v: u32,
+    w1: u8,
+    w2: u8,
+) -> Answered
+    ensures { λ r. ⌜ outcome r (caches (now (memory .exit)) (now (lines .exit)) (now (entries .exit)) (now (flags .exit))) ≡ hit d op p i word v w1 w2 (caches (now (memory .entry)) (now (lines .entry)) (now (entries .entry)) (now (flags .entry))) ⌝ }
+{
+    let w = (w1 as u32) + (w2 as u32);
+    if op == LT {
+        return finish(entries, op, p, i, v, quiet_counts(w));
+    }
+    let j = p % 8 * 64 + i % 64;
+    let e = Entry::unpack(entries[j]);
+    if e.state != VALID {
+        return finish(entries, op, p, i, v, quiet_counts(w));
+    }
+    if snoop::refuses(entries, d, p, word, T_RFO) {
+        caches::rollback(entries, flags, p, d.entries);
+        return aborted(upgrade_counts(w, 1));
+    }
+    snoop::snoop(memory, lines, entries, d, p, word, T_RFO);
+    let f = e.with_state(RESERVED);
+    entries[j] = f.pack();
+    finish(entries, op, p, i, v, upgrade_counts(w, 0))
+}
+
+fn open_normal(memory: &mut Memory, entries: &mut Copies, d: Dims, p: usize, i: usize) -> u8
+    ensures { λ r. ⌜ ((l f : List ℕ) → counted r (caches (now (memory .exit)) l (now (entries .exit)) f) ≡ openNormal d p i (caches (now (memory .entry)) l (now (entries .entry)) f)) ⌝ }
+{
+    let j = p % 8 * 64 + i % 64;
+    let e = Entry::unpack(entries[j]);
+    let tentative = e.with_tag(TENTATIVE);
+    let b = caches::free_slot(entries, p, d.entries, i);
+    if b < d.entries {
+        let k = p % 8 * 64 + b % 64;
+        let victim = Entry::unpack(entries[k]);
+        let backup = e.with_tag(BACKUP);
+        entries[k] = backup.pack();
+        entries[j] = tentative.pack();
+        return caches::write_back(memory, victim);
+    }
+    let state = written_state(e.state);
+    let alone = tentative.with_state(state);
+    entries[j] = alone.pack();
+    caches::write_back(memory, e)
+}
+
+fn clear_backup(memory: &mut Memory, entries: &mut Copies, d: Dims, p: usize, b: usize) -> u8
+    ensures { λ r. ⌜ ((l f : List ℕ) → counted r (caches (now (memory .exit)) l (now (entries .exit)) f) ≡ clearBackup d p b (caches (now (memory .entry)) l (now (entries .entry)) f)) ⌝ }
+{
+    if b < d.entries {
+        return caches::clear(memory, entries, p, b);
+    }
+    0
+}
+
+fn fill_backup(entries: &mut Copies, d: Dims, p: usize, b: usize, e: Entry)
+    ensures { λ r. ⌜ now (entries .exit) ≡ fillBackup d p b e (now (entries .entry)) ⌝ }
+{
+    if b < d.entries {
+        let j = p % 8 * 64 + b % 64;
+        entries[j] = e.pack();
+    }
+}
+
+fn fill(
+    entries: &mut Copies,
+    d: Dims,
+    op: u8,
+    p: usize,
+    i: usize,
+    b: usize,
+    word: u8,
+    supplied: u32,
+    v: u32,
+    w: u32,
+) -> Answered
+    ensures { λ r. ⌜ ((m l f : List ℕ) → outcome r (caches m l (now (entries .exit)) f) ≡ fill d op p i b word supplied v w (caches m l (now (entries .entry)) f)) ⌝ }
+{
+    let state = filled_state(op);
+    let tentative = Entry {
+        state: state,
+        tag: TENTATIVE,
+        word: word,
+        data: supplied,
+    };
+    let j = p % 8 * 64 + i % 64;
+    entries[j] = tentative.pack();
+    let backup = Entry {
+        state: state,
+        tag: BACKUP,
+        word: word,
+        data: supplied,
+    };
+    fill_backup(entries, d, p, b, backup);
+    finish(entries, op, p, i, v, request_counts(op, w, 0))
+}
+
+fn request(
+    memory: &mut Memory,
+    lines: &mut Copies,
+    entries: &mut Copies,
+    flags: &mut Flags,
+    d: Dims,
+    op: u8,
+    p: usize,
+    i: usize,
+    b: usize,
+    word: u8,
+    v: u32,
+    w: u32,
+) -> Answered
+    ensures { λ r. ⌜ outcome r (caches (now (memory .exit)) (now (lines .exit)) (now (entries .exit)) (now (flags .exit))) ≡ request d op p i b word v w (caches (now (memory .entry)) (now (lines .entry)) (now (entries .entry)) (now (flags .entry))) ⌝ }
+{
+    let cycle = request_of(op);
+    if snoop::refuses(entries, d, p, word, cycle) {
+        caches::rollback(entries, flags, p, d.entries);
+        return aborted(request_counts(op, w, 1));
+    }
+    snoop::snoop(memory, lines, entries, d, p, word, cycle);
+    let a = word as usize;
+    let supplied = memory[a];
+    fill(entries, d, op, p, i, b, word, supplied, v, w)
+}
+
+fn miss_at(
+    memory: &mut Memory,
+    lines: &mut Copies,
+    entries: &mut Copies,
+    flags: &mut Flags,
+    d: Dims,
+    op: u8,
+    p: usize,
+    i: usize,
+    word: u8,
+    v: u32,
+    w1: u8,
+) -> Answered
+    ensures { λ r. ⌜ outcome r (caches (now (memory .exit)) (now (lines .exit)) (now (entries .exit)) (now (flags .exit))) ≡ missAt d op p i word v w1 (caches (now (memory .entry)) (now (lines .entry)) (now (entries .entry)) (now (flags .entry))) ⌝ }
+{
+    let w2 = caches::clear(memory, entries, p, i);
+    let b = caches::free_slot(entries, p, d.entries, i);
+    let w3 = clear_backup(memory, entries, d, p, b);
+    let w = (w1 as u32) + (w2 as u32) + (w3 as u32);
+    request(memory, lines, entries, flags, d, op, p, i, b, word, v, w)
+}
+
+fn miss(
+    memory: &mut Memory,
+    lines: &mut Copies,
+    entries: &mut Copies,
+    flags: &mut Flags,
+    d: Dims,
+    op: u8,
+    p: usize,
+    word: u8,
+    v: u32,
+    w1: u8,
+) -> Answered
+    ensures { λ r. ⌜ outcome r (caches (now (memory .exit)) (now (lines .exit)) (now (entries .exit)) (now (flags .exit))) ≡ miss d op p word v w1 (caches (now (memory .entry)) (now (lines .entry)) (now (entries .entry)) (now (flags .entry))) ⌝ }
+{
+    let n = d.entries;
+    let i = caches::free_slot(entries, p, n, n);
+    if i < n {
+        return miss_at(memory, lines, entries, flags, d, op, p, i, word, v, w1);
+    }
+    caches::rollback(entries, flags, p, n);
+    aborted(quiet_counts(w1 as u32))
+}
+
+fn seek(
+    memory: &mut Memory,
+    lines: &mut Copies,
+    entries: &mut Copies,
+    flags: &mut Flags,
+    d: Dims,
+    op: u8,
+    p: usize,
+    word: u8,
+    v: u32,
+    w1: u8,
+) -> Answered
+    ensures { λ r. ⌜ outcome r (caches (now (memory .exit)) (now (lines .exit)) (now (entries .exit)) (now (flags .exit))) ≡ seek d op p word v (counted w1 (caches (now (memory .entry)) (now (lines .entry)) (now (entries .entry)) (now (flags .entry)))) ⌝ }
+{
+    let i = caches::find_entry(entries, p, d.entries, TENTATIVE, word);
+    if i < d.entries {
+        return hit(memory, lines, entries, flags, d, op, p, i, word, v, w1, 0);
+    }
+    let j = caches::find_entry(entries, p, d.entries, NORMAL, word);
+    if j < d.entries {
+        let w2 = open_normal(memory, entries, d, p, j);
+        return hit(memory, lines, entries, flags, d, op, p, j, word, v, w1, w2);
+    }
+    miss(memory, lines, entries, flags, d, op, p, word, v, w1)
+}
+
+pub fn transact(
+    memory: &mut Memory,
+    lines: &mut Copies,
+    entries: &mut Copies,
+    flags: &mut Flags,
+    d: Dims,
+    op: u8,
+    p: usize,
+    word: u8,
+    v: u32,
+) -> Answered
+    ensures { λ r. ⌜ outcome r (caches (now (memory .exit)) (now (lines .exit)) (now (entries .exit)) (now (flags .exit))) ≡ transact d op p word v (caches (now (memory .entry)) (now (lines .entry)) (now (entries .entry)) (now (flags .entry))) ⌝ }
+{
+    let active = p % 8;
+    flags[active] = 1;
+    let status = 8 + p % 8;
+    if flags[status] == 0 {
+        return aborted(quiet_counts(0));
+    }
+    let w = drop_line(memory, lines, d, p, word);
+    seek(memory, lines, entries, flags, d, op, p, word, v, w)
+}
