@@ -25,7 +25,7 @@ use Rattle.machine.specs.Transact.{dropLine, finish, hit, openNormal, cl
 use Rattle.machine.specs.Ends.{commit, abort, validate, interrupt}
 use Rattle.machine.specs.SoundTest.{markAll, ownAll, copyOk, isHome, lineOk, flagsUp, backupOk, entryOk, linesOk, entriesOk, flagsOk, memoryOk, copiesOk, soundOf}
 use Rattle.machine.specs.Step.{stepRefusal, takeStep}
-use Rattle.machine.specs.Run.{Steps, steps, Columns, Left, columnsOk, runSound, runOf}
+use Rattle.machine.specs.Run.{Steps, steps, Columns, columns, Left, columnsOk, runSound, runOf}
 
 pub record Row : Type 0 where
   pub op : ℕ
@@ -52,30 +52,19 @@ stepsOf r = steps (map (λ x. x .op) r) (map (λ x. x .core) r) (map (λ x. x .w
 
 abbrev pub columnsOf : List Row → Columns
 columnsOf r =
-    record {
-      answers = map (λ x. answerNumber (x .answer)) r;
-      results = map (λ x. answerValue (x .answer)) r;
-      read = map (λ x. x .counts .read) r;
-      rfo = map (λ x. x .counts .rfo) r;
-      write = map (λ x. x .counts .write) r;
-      t-read = map (λ x. x .counts .«t_read») r;
-      t-rfo = map (λ x. x .counts .«t_rfo») r;
-      busy = map (λ x. x .counts .busy) r;
-    }
+    columns
+    (map (λ x. answerNumber (x .answer)) r)
+    (map (λ x. answerValue (x .answer)) r)
+    (map (λ x. x .counts .read) r)
+    (map (λ x. x .counts .rfo) r)
+    (map (λ x. x .counts .write) r)
+    (map (λ x. x .counts .«t_read») r)
+    (map (λ x. x .counts .«t_rfo») r)
+    (map (λ x. x .counts .busy) r)
 
 -- columns of n places, all 0
 abbrev pub blank : ℕ → Columns
-blank n =
-    record {
-      answers = replicate n 0;
-      results = replicate n 0;
-      read = replicate n 0;
-      rfo = replicate n 0;
-      write = replicate n 0;
-      t-read = replicate n 0;
-      t-rfo = replicate n 0;
-      busy = replicate n 0;
-    }
+blank n = let z : List ℕ = replicate n 0 in columns z z z z z z z z
 
 abbrev pub same : List ℕ → List ℕ → Bool
 same [] [] = true

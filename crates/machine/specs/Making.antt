@@ -37,14 +37,17 @@ unfoldable pub makeRefusal : Dims → List ℕ → ℕ
 makeRefusal d memory =
     pick (eqb (dimsRefusal d) accepted) (pick (eqb (length memory) (d .words)) accepted badMemory) (dimsRefusal d)
 
--- TACTIVE false, TSTATUS true, of each processor; the flags of none are 0
+-- l and then 0, n places in all
+abbrev pub padded : ℕ → List ℕ → List ℕ
+padded n l = l ++ replicate (n - length l) 0
+
+-- TACTIVE false, TSTATUS true, of each processor; the other flags are 0
 abbrev pub freshFlags : ℕ → List ℕ
-freshFlags processors = replicate 8 0 ++ (replicate processors 1 ++ replicate (8 - processors) 0)
+freshFlags processors = replicate 8 0 ++ padded 8 (replicate processors 1)
 
 -- "A fresh machine has empty caches, TACTIVE false, TSTATUS true, and the memory the caller gave."
 unfoldable pub fresh : Dims → List ℕ → Caches
-fresh d memory =
-    caches (memory ++ replicate (256 - length memory) 0) (replicate 512 0) (replicate 512 0) (freshFlags (d .processors))
+fresh d memory = caches (padded 256 memory) (replicate 512 0) (replicate 512 0) (freshFlags (d .processors))
 
 -- what stands in for a machine that was refused: the smallest, with memory zero
 abbrev pub smallest : Machine

@@ -1,7 +1,7 @@
 -- A run over lent columns: refusals 9 and 10, then "A run stops before the first refused step with its number: earlier answers stand, as does
 -- the state they reached, later places keep their contents, and it tells how many steps were taken."
 use mathlib.Core.Bool.{Bool, not}
-use mathlib.Core.List.{List}
+use mathlib.Core.List.{List, [], _∷_}
 use Prim.Native.Nat.{ℕ}
 use lib.Dec.{eqb, ltb, leb}
 use lib.ListN.{length, getD, set}
@@ -38,38 +38,49 @@ pub record Columns : Type 0 where
   pub t-rfo : List ℕ
   pub busy : List ℕ
 
+abbrev pub columns : List ℕ → List ℕ → List ℕ → List ℕ → List ℕ → List ℕ → List ℕ → List ℕ → Columns
+columns a b c d e f g h =
+    record { answers = a; results = b; read = c; rfo = d; write = e; t-read = f; t-rfo = g; busy = h }
+
 -- place i of every column of answers is written
 abbrev pub written : Columns → ℕ → Answered → Columns
 written c i a =
-    record {
-      answers = set (c .answers) i (answerNumber (a .answer));
-      results = set (c .results) i (answerValue (a .answer));
-      read = set (c .read) i (a .counts .read);
-      rfo = set (c .rfo) i (a .counts .rfo);
-      write = set (c .write) i (a .counts .write);
-      t-read = set (c .t-read) i (a .counts .«t_read»);
-      t-rfo = set (c .t-rfo) i (a .counts .«t_rfo»);
-      busy = set (c .busy) i (a .counts .busy);
-    }
+    columns
+    (set (c .answers) i (answerNumber (a .answer)))
+    (set (c .results) i (answerValue (a .answer)))
+    (set (c .read) i (a .counts .read))
+    (set (c .rfo) i (a .counts .rfo))
+    (set (c .write) i (a .counts .write))
+    (set (c .t-read) i (a .counts .«t_read»))
+    (set (c .t-rfo) i (a .counts .«t_rfo»))
+    (set (c .busy) i (a .counts .busy))
 
 -- "exceed 65,536"
 abbrev pub mostSteps : ℕ
 mostSteps = 65536
 
+-- all of the numbers are n, and ok
+abbrev pub allAre : ℕ → Bool → List ℕ → Bool
+allAre n ok [] = ok
+allAre n ok (x ∷ l) = allAre n (both ok (eqb x n)) l
+
 -- 10: "lent columns of a run differ in length, or exceed 65,536"
 unfoldable pub columnsOk : Steps → Columns → Bool
 columnsOk x c =
     let n = length (x .ops) in
-    both (leb n mostSteps)
-    (both (eqb (length (x .cores)) n)
-    (both (eqb (length (x .words)) n)
-    (both (eqb (length (x .values)) n)
-    (both (eqb (length (c .answers)) n)
-    (both (eqb (length (c .results)) n)
-    (both (eqb (length (c .read)) n)
-    (both (eqb (length (c .rfo)) n)
-    (both (eqb (length (c .write)) n)
-    (both (eqb (length (c .t-read)) n) (both (eqb (length (c .t-rfo)) n) (eqb (length (c .busy)) n)))))))))))
+    allAre n (leb n mostSteps)
+    (length (x .cores) ∷
+    length (x .words) ∷
+    length (x .values) ∷
+    length (c .answers) ∷
+    length (c .results) ∷
+    length (c .read) ∷
+    length (c .rfo) ∷
+    length (c .write) ∷
+    length (c .t-read) ∷
+    length (c .t-rfo) ∷
+    length (c .busy) ∷
+    [])
 
 pub record Carried : Type 0 where
   pub state : Caches

@@ -1,0 +1,69 @@
+-- A turn of a run's loop, a refused step, and the end, over plain variables.
+use mathlib.Core.Path.{_≡_, refl, sym, _∙_, ap}
+use Prim.Native.Nat.{ℕ, _+_, _-_, _<_, _≤_}
+use lib.ListN.{length, getD, length-set}
+use borrow.Author.Tests.{eq-eqb, ne-eqb, lt-ltb, le-ltb}
+use Rattle.laws.specs.Until.{untilRange, until-end, until-stop, until-turn}
+use Rattle.entry.specs.declared.answer.Answered.{Answered}
+use Rattle.machine.specs.declared.Dims.{Dims}
+use Rattle.machine.specs.State.{Caches, Outcome, outcome}
+use Rattle.machine.specs.Refusals.{accepted}
+use Rattle.machine.specs.Step.{stepRefusal, takeStep}
+use Rattle.machine.specs.Run.{Steps, Columns, written, Carried, carried, stopsAt, turn, stopped}
+use Rattle.bus.specs.Halting.{halted}
+
+-- a column keeps its length
+pub record SameLengths (c k : Columns) : Type 0 where
+  pub answers : length (c .answers) ≡ length (k .answers)
+  pub results : length (c .results) ≡ length (k .results)
+  pub read : length (c .read) ≡ length (k .read)
+  pub rfo : length (c .rfo) ≡ length (k .rfo)
+  pub write : length (c .write) ≡ length (k .write)
+  pub t-read : length (c .t-read) ≡ length (k .t-read)
+  pub t-rfo : length (c .t-rfo) ≡ length (k .t-rfo)
+  pub busy : length (c .busy) ≡ length (k .busy)
+
+pub same-refl : (c : Columns) → SameLengths c c
+same-refl c =
+    record { answers = refl; results = refl; read = refl; rfo = refl; write = refl; t-read = refl; t-rfo = refl; busy = refl }
+
+pub written-same : (c k cs : Columns) (i : ℕ) (a : Answered) → cs ≡ written c i a → SameLengths c k → SameLengths cs k
+written-same c k cs i a e h =
+    rw e
+    (record {
+      answers = length-set (c .answers) i _ ∙ h .answers;
+      results = length-set (c .results) i _ ∙ h .results;
+      read = length-set (c .read) i _ ∙ h .read;
+      rfo = length-set (c .rfo) i _ ∙ h .rfo;
+      write = length-set (c .write) i _ ∙ h .write;
+      t-read = length-set (c .t-read) i _ ∙ h .t-read;
+      t-rfo = length-set (c .t-rfo) i _ ∙ h .t-rfo;
+      busy = length-set (c .busy) i _ ∙ h .busy;
+    })
+
+module _ (d : Dims) (x : Steps) (i n : ℕ) (c : Carried) (whole : ℕ × Carried)
+    (inv : untilRange (stopsAt d x) (turn d x) i (n - i) c ≡ whole) where
+  pub ran-out : n ≤ i → halted d (record { taken = i; refusal = 0 }) c ≡ stopped d x n whole
+  ran-out h = rw (← inv, until-end (stopsAt d x) (turn d x) i n c h, le-ltb i n h)
+
+  module _ (h : i < n) (op p word k : ℕ) (eo : op ≡ getD (x .ops) i 0) (ep : p ≡ getD (x .cores) i 0) (ew : word ≡ getD (x .words) i 0)
+      (ek : k ≡ stepRefusal d op p word) where
+    pub halts : (k ≡ 0 → ⊥) → halted d (record { taken = i; refusal = k }) c ≡ stopped d x n whole
+    halts nz =
+        rw (
+          ← inv,
+          until-stop (stopsAt d x) (turn d x) i n c h (rw (← eo, ← ep, ← ew, ← ek, ne-eqb k 0 nz)),
+          lt-ltb i n h,
+          ← eo,
+          ← ep,
+          ← ew,
+          ← ek,
+        )
+
+    pub takes-turn : k ≡ 0 → (v : ℕ) (a : Answered) (s : Caches) (cs : Columns) → v ≡ getD (x .values) i 0 →
+        outcome a s ≡ takeStep d op p word v (c .state) → cs ≡ written (c .columns) i a →
+        untilRange (stopsAt d x) (turn d x) (i + 1) (n - (i + 1)) (carried s cs) ≡ whole
+    takes-turn z v a s cs ev e ec =
+        let e' = rw (eo, ep, ew, ev) at e in
+        rw (ec, ap (λ (r : Outcome). r .told) e', ap (λ (r : Outcome). r .after) e')
+        (sym (until-turn (stopsAt d x) (turn d x) i n c h (rw (← eo, ← ep, ← ew, ← ek, eq-eqb k 0 z))) ∙ inv)

@@ -1,0 +1,54 @@
+use Rattle.machine.specs.Making.{padded}
+use Prim.Native.Nat.{_≤_, _-_}
+use mathlib.Core.Path.{_≡_, _∙_, sym}
+use native.Mathlib.Omega.{arith}
+use mathlib.Core.Path.{refl, ap}
+use mathlib.Core.List.{List, _++_}
+use Prim.Native.Nat.{ℕ}
+use lib.ListN.{take, replicate, set, length-replicate, getD-replicate}
+use lib.Seq.{take-all}
+use Rattle.bus.proofs.Padding.{pad-turn, set-past}
+use borrow.Author.Needs.{needs}
+use Rattle.bus.proofs.making.fresh_flags.Statement.{statement}
+use Rattle.bus.proofs.making.fresh_flags.Tie as tie
+
+abbrev Inv-loop : tie.InvT-loop
+Inv-loop processors flags₀ p₀ flags p = (p ≤ processors) × (flags ≡ replicate 8 0 ++ padded 8 (take p (replicate processors 1)))
+
+abbrev μ-loop : tie.MeasureT-loop
+μ-loop processors flags₀ p₀ flags p = processors - p
+
+loop-holds : tie.Need-loop-holds Inv-loop μ-loop
+loop-holds c = (search needs, refl)
+
+add-flags : tie.Need-add-flags Inv-loop μ-loop
+add-flags c = search needs
+
+array-write-flags : tie.Need-array-write-flags Inv-loop μ-loop
+array-write-flags c = search needs
+
+add-p : tie.Need-add-p Inv-loop μ-loop
+add-p c = search needs
+
+loop-less : tie.Need-loop-less Inv-loop μ-loop
+loop-less c = search needs
+
+loop-again : tie.Need-loop-again Inv-loop μ-loop
+loop-again c = (search needs, rw (c .before .loop .inv .1) (set-past (replicate 8 0) (padded 8 (take (c .before .loop .p) (replicate (c .before .before .args .processors) 1))) (c .before .loop .p) 1 ∙ ap (λ (l : List ℕ). replicate 8 0 ++ l) (ap (λ (z : ℕ). set (padded 8 (take (c .before .loop .p) (replicate (c .before .before .args .processors) 1))) (c .before .loop .p) z) (sym (getD-replicate {A = ℕ} (c .before .before .args .processors) (c .before .loop .p) 1 0 (search needs))) ∙ (pad-turn 8 (c .before .loop .p) (replicate (c .before .before .args .processors) 1) (omega (arith, length-replicate {A = ℕ} (c .before .before .args .processors) 1, c .loop-test)) (omega (arith, length-replicate {A = ℕ} (c .before .before .args .processors) 1, c .before .before .pre))))))
+
+returns : tie.Need-returns Inv-loop μ-loop
+returns c = c .before .loop .inv .1 ∙ ap (λ (l : List ℕ). replicate 8 0 ++ padded 8 l) (take-all (c .before .loop .p) (replicate (c .before .before .args .processors) 1) (omega (arith, length-replicate {A = ℕ} (c .before .before .args .processors) 1, c .loop-test)))
+
+pub fresh-flags-spec : {M : Type 1} → statement M
+fresh-flags-spec =
+    tie.close
+    (tie.spec
+    Inv-loop
+    μ-loop
+    loop-holds
+    add-flags
+    array-write-flags
+    add-p
+    loop-less
+    loop-again
+    returns)

@@ -1,0 +1,89 @@
+use borrow.Author.Tests.{lt-ltb, le-ltb}
+use Rattle.machine.specs.Settled.{settledIn}
+use borrow.Author.Needs.{needs}
+use Rattle.bus.proofs.settling.settled_in.Statement.{statement}
+use Rattle.bus.proofs.settling.settled_in.Tie as tie
+
+home-requires : tie.Need-home-requires
+home-requires c κs = search needs
+
+find-settler-requires : tie.Need-find-settler-requires
+find-settler-requires c κs = search needs
+
+mul-result : tie.Need-mul-result
+mul-result c = search needs
+
+element-copy-out-result : tie.Need-element-copy-out-result
+element-copy-out-result c = search needs
+
+returns : tie.Need-returns
+unfolding settledIn
+returns c = rw (← c .before .before .before .before .home .ensures, ← c .before .before .before .find-settler .ensures, le-ltb _ _ (c .before .if1 .taken))
+
+mul-j : tie.Need-mul-j
+mul-j c = search needs
+
+add-j : tie.Need-add-j
+add-j c = search needs
+
+mul-unpack : tie.Need-mul-unpack
+mul-unpack c = search needs
+
+element-copy-out-unpack : tie.Need-element-copy-out-unpack
+element-copy-out-unpack c = search needs
+
+unpack-requires : tie.Need-unpack-requires
+unpack-requires c κs = search needs
+
+is-dirty-requires : tie.Need-is-dirty-requires
+is-dirty-requires c κs = search needs
+
+returns-2 : tie.Need-returns-2
+unfolding settledIn
+returns-2 c = rw (← c .before .before .before .before .before .before .before .home .ensures, ← c .before .before .before .before .before .before .find-settler .ensures, lt-ltb _ _ (c .before .before .before .before .if1 .left), ← (rw (c .before .before .unpack .ensures) at (c .before .is-dirty .ensures)), c .if2 .taken, c .before .before .unpack .ensures)
+
+settling-entry-requires : tie.Need-settling-entry-requires
+settling-entry-requires c κs = search needs
+
+mul-at : tie.Need-mul-at
+mul-at c = search needs
+
+add-at : tie.Need-add-at
+add-at c = search needs
+
+mul-unpack-2 : tie.Need-mul-unpack-2
+mul-unpack-2 c = search needs
+
+element-copy-out-unpack-2 : tie.Need-element-copy-out-unpack-2
+element-copy-out-unpack-2 c = search needs
+
+unpack-requires-2 : tie.Need-unpack-requires-2
+unpack-requires-2 c κs = search needs
+
+returns-3 : tie.Need-returns-3
+unfolding settledIn
+returns-3 c = rw (← c .before .before .before .before .before .before .before .before .before .before .home .ensures, ← c .before .before .before .before .before .before .before .before .before .find-settler .ensures, lt-ltb _ _ (c .before .before .before .before .before .before .before .if1 .left), ← (rw (c .before .before .before .before .before .unpack .ensures) at (c .before .before .before .before .is-dirty .ensures)), c .before .before .before .if2 .left, ← c .before .before .settling-entry .ensures, c .unpack2 .ensures)
+
+pub settled-in-spec : {M : Type 1} → statement M
+settled-in-spec =
+    tie.close
+    (tie.spec
+    home-requires
+    find-settler-requires
+    mul-result
+    element-copy-out-result
+    returns
+    mul-j
+    add-j
+    mul-unpack
+    element-copy-out-unpack
+    unpack-requires
+    is-dirty-requires
+    returns-2
+    settling-entry-requires
+    mul-at
+    add-at
+    mul-unpack-2
+    element-copy-out-unpack-2
+    unpack-requires-2
+    returns-3)

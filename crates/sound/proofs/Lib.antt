@@ -1,0 +1,12 @@
+pub mod Every
+pub mod Codes
+pub mod Stamp
+pub mod Reflect
+pub mod Places
+pub mod Passes
+pub mod Tested
+pub mod Keys
+pub mod Holds
+pub mod Passed
+pub mod Exact
+pub mod Unique

@@ -1,0 +1,56 @@
+use borrow.Author.Tests.{eq-eqb, ne-eqb}
+use borrow.Author.Tests.{not-true, not-false}
+use Rattle.machine.specs.SoundTest.{soundOf}
+use borrow.Author.Needs.{needs}
+use Rattle.sound.proofs.sound.Statement.{statement}
+use Rattle.sound.proofs.sound.Tie as tie
+
+lengths-ok-requires : tie.Need-lengths-ok-requires
+lengths-ok-requires c κs = search needs
+
+returns : tie.Need-returns
+unfolding soundOf
+returns c = rw (← c .before .lengths-ok .ensures, not-true (c .before .lengths-ok .result) (c .if1 .taken))
+
+dims-refusal-requires : tie.Need-dims-refusal-requires
+dims-refusal-requires c κs = search needs
+
+returns-2 : tie.Need-returns-2
+unfolding soundOf
+returns-2 c = rw (← c .before .before .before .lengths-ok .ensures, not-false (c .before .before .before .lengths-ok .result) (c .before .before .if1 .left), ← c .before .dims-refusal .ensures, ne-eqb _ _ (c .if2 .taken))
+
+flags-ok-requires : tie.Need-flags-ok-requires
+flags-ok-requires c κs = search needs
+
+returns-3 : tie.Need-returns-3
+unfolding soundOf
+returns-3 c = rw (← c .before .before .before .before .before .lengths-ok .ensures, not-false (c .before .before .before .before .before .lengths-ok .result) (c .before .before .before .before .if1 .left), ← c .before .before .before .dims-refusal .ensures, eq-eqb _ _ (c .before .before .if2 .left), ← c .before .flags-ok .ensures, not-true (c .before .flags-ok .result) (c .if3 .taken))
+
+memory-ok-requires : tie.Need-memory-ok-requires
+memory-ok-requires c κs = search needs
+
+returns-4 : tie.Need-returns-4
+unfolding soundOf
+returns-4 c = rw (← c .before .before .before .before .before .before .before .lengths-ok .ensures, not-false (c .before .before .before .before .before .before .before .lengths-ok .result) (c .before .before .before .before .before .before .if1 .left), ← c .before .before .before .before .before .dims-refusal .ensures, eq-eqb _ _ (c .before .before .before .before .if2 .left), ← c .before .before .before .flags-ok .ensures, not-false (c .before .before .before .flags-ok .result) (c .before .before .if3 .left), ← c .before .memory-ok .ensures, not-true (c .before .memory-ok .result) (c .if4 .taken))
+
+copies-ok-requires : tie.Need-copies-ok-requires
+copies-ok-requires c κs = search needs
+
+returns-5 : tie.Need-returns-5
+unfolding soundOf
+returns-5 c = rw (← c .before .before .before .before .before .before .before .before .lengths-ok .ensures, not-false (c .before .before .before .before .before .before .before .before .lengths-ok .result) (c .before .before .before .before .before .before .before .if1 .left), ← c .before .before .before .before .before .before .dims-refusal .ensures, eq-eqb _ _ (c .before .before .before .before .before .if2 .left), ← c .before .before .before .before .flags-ok .ensures, not-false (c .before .before .before .before .flags-ok .result) (c .before .before .before .if3 .left), ← c .before .before .memory-ok .ensures, not-false (c .before .before .memory-ok .result) (c .before .if4 .left)) (c .copies-ok .ensures)
+
+pub sound-spec : {M : Type 1} → statement M
+sound-spec =
+    tie.close
+    (tie.spec
+    lengths-ok-requires
+    returns
+    dims-refusal-requires
+    returns-2
+    flags-ok-requires
+    returns-3
+    memory-ok-requires
+    returns-4
+    copies-ok-requires
+    returns-5)

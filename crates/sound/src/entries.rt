@@ -1,0 +1,123 @@
+// Every transactional entry. Place j is slot j % 64 of processor j / 64.
+
+use crate::copies::copy_ok;
+use crate::marks::Marks;
+use crate::marks::OF_ENTRIES;
+use crate::owners::Owners;
+use entry::Entry;
+use entry::numbers::BACKUP;
+use entry::numbers::INVALID;
+use entry::numbers::TENTATIVE;
+use machine::Copies;
+use machine::Dims;
+use machine::Flags;
+use machine::Memory;
+ghost use mathlib.Core.Path.{_≡_};
+ghost use Rattle.machine.specs.SoundTest.{flagsUp, isPartner, backupOk, entryOk, entriesOk};
+
+pub fn entries_ok(
+    memory: &Memory,
+    marks: &Marks,
+    owners: &Owners,
+    flags: &Flags,
+    d: Dims,
+    entries: &Copies,
+) -> bool
+    ensures { λ r. ⌜ r ≡ entriesOk (now (memory .entry)) (now (marks .entry)) (now (owners .entry)) (now (flags .entry)) d (now (entries .entry)) ⌝ }
+{
+    let mut j: usize = 0;
+    while j < 512 {
+        if !entry_ok(memory, marks, owners, entries, flags, d, entries[j], j) {
+            return false;
+        }
+        j += 1;
+    }
+    true
+}
+
+fn entry_ok(
+    memory: &Memory,
+    marks: &Marks,
+    owners: &Owners,
+    entries: &Copies,
+    flags: &Flags,
+    d: Dims,
+    x: u64,
+    j: usize,
+) -> bool
+    ensures { λ r. ⌜ r ≡ entryOk (now (memory .entry)) (now (marks .entry)) (now (owners .entry)) (now (entries .entry)) (now (flags .entry)) d x j ⌝ }
+{
+    if x == 0 {
+        return true;
+    }
+    if j / 64 >= d.processors {
+        return false;
+    }
+    if j % 64 >= d.entries {
+        return false;
+    }
+    let e = Entry::unpack(x);
+    if e.pack() != x {
+        return false;
+    }
+    if e.tag == INVALID {
+        return false;
+    }
+    if e.state == INVALID {
+        return false;
+    }
+    if !flags_up(flags, e, j) {
+        return false;
+    }
+    if !backup_ok(marks, entries, e, j) {
+        return false;
+    }
+    copy_ok(memory, marks, owners, d.words, OF_ENTRIES, e, j)
+}
+
+fn flags_up(flags: &Flags, e: Entry, j: usize) -> bool
+    ensures { λ r. ⌜ r ≡ flagsUp (now (flags .entry)) e j ⌝ }
+{
+    if e.tag != TENTATIVE {
+        return true;
+    }
+    let active = j / 64 % 8;
+    if flags[active] != 1 {
+        return false;
+    }
+    let status = 8 + active;
+    flags[status] == 1
+}
+
+fn backup_ok(marks: &Marks, entries: &Copies, e: Entry, j: usize) -> bool
+    ensures { λ r. ⌜ r ≡ backupOk (now (marks .entry)) (now (entries .entry)) e j ⌝ }
+{
+    if e.tag != BACKUP {
+        return true;
+    }
+    // The mark of the word's other copy names a place; whether its tentative entry stands there is tested, not trusted.
+    let at = j / 64 % 8 * 512 + (e.word as usize);
+    let k = (wide(marks[at]) / 2 + 511) % 512;
+    is_partner(e, j, Entry::unpack(entries[k]), k)
+}
+
+fn is_partner(e: Entry, j: usize, f: Entry, k: usize) -> bool
+    ensures { λ r. ⌜ r ≡ isPartner e j f k ⌝ }
+{
+    if k / 64 != j / 64 {
+        return false;
+    }
+    if f.tag != TENTATIVE {
+        return false;
+    }
+    if f.word != e.word {
+        return false;
+    }
+    e.state <= f.state
+}
+
+fn wide(x: u16) -> usize
+    ensures { λ r. ⌜ r ≡ x ⌝ }
+{
+    x as usize
+}

@@ -1,0 +1,63 @@
+// Refusal 9: whether a state handed in is sound. Two passes leave scratch notes of where each copy stands and who owns each word; then
+// every place is looked at once against the notes. Nothing is compared pair by pair.
+
+mod arrays;
+mod copies;
+pub mod dims;
+mod entries;
+mod lines;
+mod marks;
+mod owners;
+
+use crate::arrays::flags_ok;
+use crate::arrays::lengths_ok;
+use crate::arrays::memory_ok;
+use crate::dims::dims_refusal;
+use crate::entries::entries_ok;
+use crate::lines::lines_ok;
+use crate::marks::Marks;
+use crate::marks::OF_ENTRIES;
+use crate::marks::OF_LINES;
+use crate::marks::mark_all;
+use crate::owners::Owners;
+use crate::owners::own_all;
+use machine::Copies;
+use machine::Dims;
+use machine::Flags;
+use machine::Memory;
+ghost use mathlib.Core.Path.{_≡_};
+ghost use Rattle.machine.specs.State.{caches};
+ghost use Rattle.machine.specs.SoundTest.{copiesOk, soundOf};
+
+pub fn sound(memory: &Memory, lines: &Copies, entries: &Copies, flags: &Flags, d: Dims) -> bool
+    ensures { λ r. ⌜ r ≡ soundOf d (caches (now (memory .entry)) (now (lines .entry)) (now (entries .entry)) (now (flags .entry))) ⌝ }
+{
+    if !lengths_ok(memory, lines, entries, flags) {
+        return false;
+    }
+    if dims_refusal(d) != 0 {
+        return false;
+    }
+    if !flags_ok(flags, d.processors) {
+        return false;
+    }
+    if !memory_ok(memory, d.words) {
+        return false;
+    }
+    copies_ok(memory, lines, entries, flags, d)
+}
+
+fn copies_ok(memory: &Memory, lines: &Copies, entries: &Copies, flags: &Flags, d: Dims) -> bool
+    ensures { λ r. ⌜ r ≡ copiesOk d (caches (now (memory .entry)) (now (lines .entry)) (now (entries .entry)) (now (flags .entry))) ⌝ }
+{
+    let mut marks: Marks = [0; 4096];
+    mark_all(&mut marks, OF_LINES, lines);
+    mark_all(&mut marks, OF_ENTRIES, entries);
+    let mut owners: Owners = [0; 256];
+    own_all(&mut owners, lines);
+    own_all(&mut owners, entries);
+    if !lines_ok(memory, &marks, &owners, d, lines) {
+        return false;
+    }
+    entries_ok(memory, &marks, &owners, flags, d, entries)
+}
