@@ -1,3 +1,4 @@
 pub mod Padding
 pub mod Words
 pub mod Turns
+pub mod Unique

@@ -7,7 +7,7 @@ ghost use lib.ListN.{getD, set};
 ghost use Rattle.laws.specs.Choice.{both};
 ghost use Rattle.machine.specs.Run.{columns, written};
 
-pub fn byte_at(column: &[u8], i: usize) -> u8
+pub(crate) fn byte_at(column: &[u8], i: usize) -> u8
     ensures { λ r. ⌜ r ≡ getD (now (column .entry)) i 0 ⌝ }
 {
     if i < column.len() {
@@ -16,7 +16,7 @@ pub fn byte_at(column: &[u8], i: usize) -> u8
     0
 }
 
-pub fn number_at(column: &[u32], i: usize) -> u32
+pub(crate) fn number_at(column: &[u32], i: usize) -> u32
     ensures { λ r. ⌜ r ≡ getD (now (column .entry)) i 0 ⌝ }
 {
     if i < column.len() {
@@ -41,7 +41,7 @@ fn put_number(column: &mut [u32], i: usize, x: u32)
     }
 }
 
-pub fn write_answer(
+pub(crate) fn write_answer(
     answers: &mut [u8],
     results: &mut [u32],
     read: &mut [u32],
@@ -68,7 +68,7 @@ pub fn write_answer(
 }
 
 // One test more of the columns' lengths.
-pub fn also(ok: bool, length: usize, n: usize) -> bool
+pub(crate) fn also(ok: bool, length: usize, n: usize) -> bool
     ensures { λ r. ⌜ r ≡ both ok (eqb length n) ⌝ }
 {
     if ok {

@@ -8,7 +8,7 @@ ghost use lib.ListN.{length};
 ghost use Rattle.machine.specs.State.{machineOf};
 ghost use Rattle.machine.specs.Making.{makeRefusal, padded, freshFlags, fresh, smallest};
 
-pub fn make_refusal(d: Dims, memory: &[u32]) -> u8
+pub(crate) fn make_refusal(d: Dims, memory: &[u32]) -> u8
     ensures { λ r. ⌜ r ≡ makeRefusal d (now (memory .entry)) ⌝ }
 {
     let k = sound::dims::dims_refusal(d);
@@ -49,7 +49,7 @@ fn fresh_flags(processors: usize) -> [u8; 16]
     flags
 }
 
-pub fn fresh_machine(d: Dims, memory: &[u32]) -> Machine
+pub(crate) fn fresh_machine(d: Dims, memory: &[u32]) -> Machine
     requires { ⌜ (length (now memory) ≤ 256) × (d .processors ≤ 8) ⌝ }
     ensures { λ r. ⌜ r ≡ machineOf d (fresh d (now (memory .entry))) ⌝ }
 {
@@ -64,7 +64,7 @@ pub fn fresh_machine(d: Dims, memory: &[u32]) -> Machine
     }
 }
 
-pub fn smallest_machine() -> Machine
+pub(crate) fn smallest_machine() -> Machine
     ensures { λ r. ⌜ r ≡ smallest ⌝ }
 {
     let d = Dims {

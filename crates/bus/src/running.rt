@@ -23,7 +23,7 @@ pub struct Halt {
 }
 
 // A step that is not refused uses a word below 256, or none.
-pub fn one_step(
+pub(crate) fn one_step(
     memory: &mut Memory,
     lines: &mut Copies,
     entries: &mut Copies,
@@ -41,7 +41,7 @@ pub fn one_step(
     steps::take_step(memory, lines, entries, flags, d, op, p, w, v)
 }
 
-pub fn run_sound(
+pub(crate) fn run_sound(
     memory: &mut Memory,
     lines: &mut Copies,
     entries: &mut Copies,

@@ -82,7 +82,7 @@ fn find_settler(lines: &Copies, entries: &Copies, d: Dims, i: usize, word: u8) -
     first
 }
 
-pub fn settled_in(
+pub(crate) fn settled_in(
     memory: &Memory,
     lines: &Copies,
     entries: &Copies,

@@ -11,7 +11,7 @@ ghost use Rattle.machine.specs.SoundTest.{lengthsOk, flagsOk, memoryOk};
 
 // The callers' arrays have these lengths by type. The definitions speak of lists, which have any, and an array tells its list's length
 // where it is made a slice.
-pub fn lengths_ok(memory: &[u32], lines: &[u64], entries: &[u64], flags: &[u8]) -> bool
+pub(crate) fn lengths_ok(memory: &[u32], lines: &[u64], entries: &[u64], flags: &[u8]) -> bool
     ensures { λ r. ⌜ r ≡ lengthsOk (caches (now (memory .entry)) (now (lines .entry)) (now (entries .entry)) (now (flags .entry))) ⌝ }
 {
     if memory.len() != 256 {
@@ -26,7 +26,7 @@ pub fn lengths_ok(memory: &[u32], lines: &[u64], entries: &[u64], flags: &[u8]) 
     flags.len() == 16
 }
 
-pub fn flags_ok(flags: &Flags, processors: usize) -> bool
+pub(crate) fn flags_ok(flags: &Flags, processors: usize) -> bool
     ensures { λ r. ⌜ r ≡ flagsOk (now (flags .entry)) processors ⌝ }
 {
     let mut j: usize = 0;
@@ -50,7 +50,7 @@ fn flag_ok(flag: u8, processors: usize, j: usize) -> bool
 }
 
 // Memory past the words is 0, and there are no more words than it has.
-pub fn memory_ok(memory: &Memory, words: usize) -> bool
+pub(crate) fn memory_ok(memory: &Memory, words: usize) -> bool
     ensures { λ r. ⌜ r ≡ memoryOk (now (memory .entry)) words ⌝ }
 {
     let mut j: usize = words;

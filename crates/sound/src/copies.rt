@@ -11,7 +11,7 @@ use machine::Memory;
 ghost use mathlib.Core.Path.{_≡_};
 ghost use Rattle.machine.specs.SoundTest.{isClean, isOwned, isOnly, copyOk};
 
-pub fn copy_ok(
+pub(crate) fn copy_ok(
     memory: &Memory,
     marks: &Marks,
     owners: &Owners,

@@ -15,7 +15,7 @@ use machine::Memory;
 ghost use mathlib.Core.Path.{_≡_};
 ghost use Rattle.machine.specs.SoundTest.{flagsUp, isPartner, backupOk, entryOk, entriesOk};
 
-pub fn entries_ok(
+pub(crate) fn entries_ok(
     memory: &Memory,
     marks: &Marks,
     owners: &Owners,

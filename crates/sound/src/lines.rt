@@ -12,7 +12,13 @@ use machine::Memory;
 ghost use mathlib.Core.Path.{_≡_};
 ghost use Rattle.machine.specs.SoundTest.{lineOk, linesOk};
 
-pub fn lines_ok(memory: &Memory, marks: &Marks, owners: &Owners, d: Dims, lines: &Copies) -> bool
+pub(crate) fn lines_ok(
+    memory: &Memory,
+    marks: &Marks,
+    owners: &Owners,
+    d: Dims,
+    lines: &Copies,
+) -> bool
     ensures { λ r. ⌜ r ≡ linesOk (now (memory .entry)) (now (marks .entry)) (now (owners .entry)) d (now (lines .entry)) ⌝ }
 {
     let mut j: usize = 0;

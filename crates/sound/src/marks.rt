@@ -15,7 +15,7 @@ pub const OF_LINES: u8 = 1;
 pub const OF_ENTRIES: u8 = 2;
 
 // Each processor has 512 marks: a word's regular, NORMAL or tentative copy, then its backup.
-pub fn mark_key(e: Entry, j: usize) -> usize
+pub(crate) fn mark_key(e: Entry, j: usize) -> usize
     ensures { λ r. ⌜ (r ≡ markKey e j) × (r < 4096) ⌝ }
 {
     let word = e.word as usize;
@@ -26,13 +26,13 @@ pub fn mark_key(e: Entry, j: usize) -> usize
 }
 
 // Of these two kinds never 0, which is no mark.
-pub fn mark_value(kind: u8, j: usize) -> u16
+pub(crate) fn mark_value(kind: u8, j: usize) -> u16
     ensures { λ r. ⌜ r ≡ markValue kind j ⌝ }
 {
     ((j % 512) as u16) * 2 + (kind as u16)
 }
 
-pub fn mark_all(marks: &mut Marks, kind: u8, copies: &Copies)
+pub(crate) fn mark_all(marks: &mut Marks, kind: u8, copies: &Copies)
     ensures { λ r. ⌜ now (marks .exit) ≡ markAll kind (now (copies .entry)) (now (marks .entry)) ⌝ }
 {
     let mut j: usize = 0;

@@ -10,13 +10,13 @@ ghost use Rattle.machine.specs.SoundTest.{ownerOf, ownOne, ownAll};
 pub type Owners = [u8; 256];
 
 // Never 0, which is no owner.
-pub fn owner_of(j: usize) -> u8
+pub(crate) fn owner_of(j: usize) -> u8
     ensures { λ r. ⌜ r ≡ ownerOf j ⌝ }
 {
     ((j / 64 % 8) as u8) + 1
 }
 
-pub fn own_all(owners: &mut Owners, copies: &Copies)
+pub(crate) fn own_all(owners: &mut Owners, copies: &Copies)
     ensures { λ r. ⌜ now (owners .exit) ≡ ownAll (now (copies .entry)) (now (owners .entry)) ⌝ }
 {
     let mut j: usize = 0;

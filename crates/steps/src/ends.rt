@@ -31,13 +31,13 @@ fn told(answer: Answer) -> Answered
     }
 }
 
-pub fn no_such_step() -> Answered
+pub(crate) fn no_such_step() -> Answered
     ensures { λ r. ⌜ r ≡ refusedBy noSuchStep ⌝ }
 {
     told(Answer::Refused(6))
 }
 
-pub fn commit(entries: &mut Copies, flags: &mut Flags, d: Dims, p: usize) -> Answered
+pub(crate) fn commit(entries: &mut Copies, flags: &mut Flags, d: Dims, p: usize) -> Answered
     ensures { λ r. ⌜ ((m l : List ℕ) → outcome r (caches m l (now (entries .exit)) (now (flags .exit))) ≡ commit d p (caches m l (now (entries .entry)) (now (flags .entry)))) ⌝ }
 {
     let active = p % 8;
@@ -53,7 +53,7 @@ pub fn commit(entries: &mut Copies, flags: &mut Flags, d: Dims, p: usize) -> Ans
     told(Answer::Success)
 }
 
-pub fn abort(entries: &mut Copies, flags: &mut Flags, d: Dims, p: usize) -> Answered
+pub(crate) fn abort(entries: &mut Copies, flags: &mut Flags, d: Dims, p: usize) -> Answered
     ensures { λ r. ⌜ ((m l : List ℕ) → outcome r (caches m l (now (entries .exit)) (now (flags .exit))) ≡ abort d p (caches m l (now (entries .entry)) (now (flags .entry)))) ⌝ }
 {
     caches::rollback(entries, flags, p, d.entries);
@@ -64,7 +64,7 @@ pub fn abort(entries: &mut Copies, flags: &mut Flags, d: Dims, p: usize) -> Answ
     told(Answer::Done)
 }
 
-pub fn validate(entries: &mut Copies, flags: &mut Flags, p: usize) -> Answered
+pub(crate) fn validate(entries: &mut Copies, flags: &mut Flags, p: usize) -> Answered
     ensures { λ r. ⌜ ((m l : List ℕ) → outcome r (caches m l (now (entries .exit)) (now (flags .exit))) ≡ validate p (caches m l (now (entries .entry)) (now (flags .entry)))) ⌝ }
 {
     let active = p % 8;
@@ -77,7 +77,7 @@ pub fn validate(entries: &mut Copies, flags: &mut Flags, p: usize) -> Answered
     told(Answer::True)
 }
 
-pub fn interrupt(entries: &mut Copies, flags: &mut Flags, d: Dims, p: usize) -> Answered
+pub(crate) fn interrupt(entries: &mut Copies, flags: &mut Flags, d: Dims, p: usize) -> Answered
     ensures { λ r. ⌜ ((m l : List ℕ) → outcome r (caches m l (now (entries .exit)) (now (flags .exit))) ≡ interrupt d p (caches m l (now (entries .entry)) (now (flags .entry)))) ⌝ }
 {
     caches::rollback(entries, flags, p, d.entries);
