@@ -119,7 +119,7 @@ pub fn step(m: Machine, op: u8, core: u8, word: u32, value: u32) -> Stepped
     let mut lines = m.lines;
     let mut entries = m.entries;
     let mut flags = m.flags;
-    let told = running::one_step(
+    let answered = running::one_step(
         &mut memory,
         &mut lines,
         &mut entries,
@@ -130,7 +130,7 @@ pub fn step(m: Machine, op: u8, core: u8, word: u32, value: u32) -> Stepped
         word,
         value,
     );
-    let after = Machine {
+    let stepped = Machine {
         dims: d,
         memory: memory,
         lines: lines,
@@ -138,8 +138,8 @@ pub fn step(m: Machine, op: u8, core: u8, word: u32, value: u32) -> Stepped
         flags: flags,
     };
     Stepped {
-        told: told,
-        machine: after,
+        told: answered,
+        machine: stepped,
     }
 }
 

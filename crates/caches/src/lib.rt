@@ -111,8 +111,8 @@ pub fn rollback(entries: &mut Copies, flags: &mut Flags, p: usize, n: usize)
     while i < n {
         let j = base + i % 64;
         let e = Entry::unpack(entries[j]);
-        let f = e.rolled_back();
-        entries[j] = f.pack();
+        let rolled = e.rolled_back();
+        entries[j] = rolled.pack();
         i += 1;
     }
     let k = 8 + p % 8;
@@ -127,8 +127,8 @@ pub fn commit_entries(entries: &mut Copies, p: usize, n: usize)
     while i < n {
         let j = base + i % 64;
         let e = Entry::unpack(entries[j]);
-        let f = e.committed();
-        entries[j] = f.pack();
+        let kept = e.committed();
+        entries[j] = kept.pack();
         i += 1;
     }
 }

@@ -8,7 +8,7 @@ use Rattle.laws.specs.Choice.{pick, both, either}
 use Rattle.machine.specs.declared.Dims.{Dims}
 use Rattle.machine.specs.declared.Machine.{Machine}
 use Rattle.machine.specs.declared.Made.{Made}
-use Rattle.machine.specs.State.{Caches, caches, machineOf}
+use Rattle.machine.specs.State.{Caches, caches, machineOf, trueFlag, falseFlag}
 use Rattle.machine.specs.Refusals.{accepted, badProcessors, badWords, badLines, badEntries, badMemory}
 
 abbrev pub dims : ℕ → ℕ → ℕ → ℕ → Dims
@@ -43,7 +43,7 @@ padded n l = l ++ replicate (n - length l) 0
 
 -- TACTIVE false, TSTATUS true, of each processor; the other flags are 0
 abbrev pub freshFlags : ℕ → List ℕ
-freshFlags processors = replicate 8 0 ++ padded 8 (replicate processors 1)
+freshFlags processors = replicate 8 falseFlag ++ padded 8 (replicate processors trueFlag)
 
 -- "A fresh machine has empty caches, TACTIVE false, TSTATUS true, and the memory the caller gave."
 unfoldable pub fresh : Dims → List ℕ → Caches

@@ -7,7 +7,7 @@ use Rattle.entry.specs.declared.Entry.{Entry}
 use Rattle.entry.specs.Packing.{pack, unpack}
 use Rattle.entry.specs.Entry.{rolledBack, committed}
 use Rattle.machine.specs.declared.Dims.{Dims}
-use Rattle.machine.specs.State.{Caches, caches, place, activePlace, statusPlace, withFlags}
+use Rattle.machine.specs.State.{Caches, caches, place, activePlace, statusPlace, trueFlag, falseFlag, withFlags}
 
 abbrev pub repacked : (Entry → Entry) → ℕ → ℕ
 repacked f x = pack (f (unpack x))
@@ -22,7 +22,7 @@ rolledEntries es p n = overEntries rolledBack p n es
 
 -- "TSTATUS becomes false"
 unfoldable pub statusDown : List ℕ → ℕ → List ℕ
-statusDown fs p = set fs (statusPlace p) 0
+statusDown fs p = set fs (statusPlace p) falseFlag
 
 abbrev pub rollback : Dims → ℕ → Caches → Caches
 rollback d p s = caches (s .memory) (s .lines) (rolledEntries (s .entries) p (d .entries)) (statusDown (s .flags) p)
@@ -33,8 +33,8 @@ committedEntries es p n = overEntries committed p n es
 
 -- "TACTIVE becomes true"
 abbrev pub begun : ℕ → Caches → Caches
-begun p s = withFlags s (set (s .flags) (activePlace p) 1)
+begun p s = withFlags s (set (s .flags) (activePlace p) trueFlag)
 
 -- "COMMIT, ABORT and a FALSE leave TACTIVE false, TSTATUS true."
 abbrev pub ended : ℕ → Caches → Caches
-ended p s = withFlags s (set (set (s .flags) (activePlace p) 0) (statusPlace p) 1)
+ended p s = withFlags s (set (set (s .flags) (activePlace p) falseFlag) (statusPlace p) trueFlag)

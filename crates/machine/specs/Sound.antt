@@ -7,7 +7,7 @@ use Rattle.entry.specs.declared.Entry.{Entry}
 use Rattle.entry.specs.Numbers.{INVALID, RESERVED, DIRTY, BACKUP, TENTATIVE}
 use Rattle.entry.specs.Packing.{packedEnd, noEntry}
 use Rattle.machine.specs.declared.Dims.{Dims}
-use Rattle.machine.specs.State.{Caches, place, lineAt, entryAt, wordAt, activePlace, statusPlace}
+use Rattle.machine.specs.State.{Caches, place, lineAt, entryAt, wordAt, activePlace, statusPlace, trueFlag}
 use Rattle.machine.specs.Making.{dimsRefusal}
 use Rattle.machine.specs.Refusals.{accepted}
 
@@ -51,7 +51,7 @@ pub record Sound (d : Dims) (s : Caches) : Type 0 where
   pub memory-inside : (word : ℕ) → word < 256 → d .words ≤ word → wordAt s word ≡ 0
   pub line-codes : (p i : ℕ) → p < 8 → i < 64 → (getD (s .lines) (place p i) 0 < packedEnd) × (lineAt s p i .tag ≡ INVALID)
   pub entry-codes : (p i : ℕ) → p < 8 → i < 64 → getD (s .entries) (place p i) 0 < packedEnd
-  pub flag-codes : (p : ℕ) → p < 8 → (activeFlag s p ≤ 1) × (statusFlag s p ≤ 1)
+  pub flag-codes : (p : ℕ) → p < 8 → (activeFlag s p ≤ trueFlag) × (statusFlag s p ≤ trueFlag)
   pub words : (p : ℕ) (e : Entry) → p < 8 → Copy s p e → Held e → e .word < d .words
   -- "a regular line holds only its own words"
   pub home : (p i : ℕ) → p < 8 → i < 64 → Held (lineAt s p i) → lineAt s p i .word % (d .lines) ≡ i
@@ -72,7 +72,7 @@ pub record Sound (d : Dims) (s : Caches) : Type 0 where
       Tentative s p (entryAt s p i .word)
   -- "tentative entries exist only with TACTIVE and TSTATUS true"
   pub tentative-flags : (p i : ℕ) → p < 8 → i < 64 → entryAt s p i .tag ≡ TENTATIVE →
-      (activeFlag s p ≡ 1) × (statusFlag s p ≡ 1)
+      (activeFlag s p ≡ trueFlag) × (statusFlag s p ≡ trueFlag)
   -- "RESERVED or DIRTY anywhere means no other processor has the word"
   pub exclusive : (p q : ℕ) (e f : Entry) → p < 8 → q < 8 → p ≢ q → Copy s p e → Copy s q f → RESERVED ≤ e .state → Held f →
       f .word ≢ e .word

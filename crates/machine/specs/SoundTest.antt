@@ -12,7 +12,7 @@ use Rattle.entry.specs.declared.Entry.{Entry}
 use Rattle.entry.specs.Numbers.{INVALID, RESERVED, DIRTY, BACKUP, TENTATIVE}
 use Rattle.entry.specs.Packing.{packedEnd, unpack}
 use Rattle.machine.specs.declared.Dims.{Dims}
-use Rattle.machine.specs.State.{Caches}
+use Rattle.machine.specs.State.{Caches, trueFlag}
 use Rattle.machine.specs.Making.{dimsRefusal}
 use Rattle.machine.specs.Refusals.{accepted}
 
@@ -92,7 +92,7 @@ lineOk memory marks owners d x j =
 -- "tentative entries exist only with TACTIVE and TSTATUS true"
 unfoldable pub flagsUp : List ℕ → Entry → ℕ → Bool
 flagsUp flags e j =
-    pick (eqb (e .tag) TENTATIVE) (both (eqb (getD flags (j / 64 % 8) 0) 1) (eqb (getD flags (8 + j / 64 % 8) 0) 1)) true
+    pick (eqb (e .tag) TENTATIVE) (both (eqb (getD flags (j / 64 % 8) 0) trueFlag) (eqb (getD flags (8 + j / 64 % 8) 0) trueFlag)) true
 
 -- the place that the mark of a backup's word names: its tentative entry's, where it has one
 abbrev pub partnerPlace : List ℕ → Entry → ℕ → ℕ
@@ -135,7 +135,7 @@ entriesOk memory marks owners flags d entries = eqb (firstFrom (badEntry memory 
 
 -- a flag is 0 or 1, and 0 past the processors
 abbrev pub badFlag : List ℕ → ℕ → ℕ → Bool
-badFlag flags processors j = not (pick (ltb (j % 8) processors) (leb (getD flags j 0) 1) (eqb (getD flags j 0) 0))
+badFlag flags processors j = not (pick (ltb (j % 8) processors) (leb (getD flags j 0) trueFlag) (eqb (getD flags j 0) 0))
 
 unfoldable pub flagsOk : List ℕ → ℕ → Bool
 flagsOk flags processors = eqb (firstFrom (badFlag flags processors) 0 16) 16

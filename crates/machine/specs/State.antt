@@ -65,6 +65,12 @@ abbrev pub withFlags : Caches → List ℕ → Caches
 withFlags s f = caches (s .memory) (s .lines) (s .entries) f
 
 -- "Each processor has TACTIVE and TSTATUS."
+abbrev pub trueFlag : ℕ
+trueFlag = 1
+
+abbrev pub falseFlag : ℕ
+falseFlag = 0
+
 abbrev pub activePlace : ℕ → ℕ
 activePlace p = p % 8
 
@@ -72,10 +78,10 @@ abbrev pub statusPlace : ℕ → ℕ
 statusPlace p = 8 + p % 8
 
 abbrev pub TACTIVE : Caches → ℕ → Bool
-TACTIVE s p = not (eqb (getD (s .flags) (activePlace p) 0) 0)
+TACTIVE s p = not (eqb (getD (s .flags) (activePlace p) 0) falseFlag)
 
 abbrev pub TSTATUS : Caches → ℕ → Bool
-TSTATUS s p = not (eqb (getD (s .flags) (statusPlace p) 0) 0)
+TSTATUS s p = not (eqb (getD (s .flags) (statusPlace p) 0) falseFlag)
 
 -- What a step leaves: its answer with six counts, and the state.
 pub record Outcome : Type 0 where
