@@ -1,5 +1,6 @@
 -- Answers and cycle counts.
 use Prim.Native.Nat.{ℕ, _+_}
+use Prim.Native.String.{String}
 use lib.Dec.{eqb}
 use Rattle.laws.specs.Choice.{pick}
 use Rattle.entry.specs.declared.answer.Answer.{Answer}
@@ -7,6 +8,17 @@ use Rattle.entry.specs.declared.answer.Answer.the-variants.{Value, Done,
 use Rattle.entry.specs.declared.answer.Counts.{Counts}
 use Rattle.entry.specs.declared.answer.Answered.{Answered}
 use Rattle.entry.specs.Numbers.{READ, RFO, WRITE, T-READ, T-RFO}
+
+-- "Answers": each case's name.
+abbrev pub answerName : Answer → String
+answerName (Value v) = "VALUE"
+answerName Done = "DONE"
+answerName Success = "SUCCESS"
+answerName Failure = "FAILURE"
+answerName True = "TRUE"
+answerName False = "FALSE"
+answerName Aborted = "ABORTED"
+answerName (Refused n) = "REFUSED"
 
 -- The number that a column holds for an answer: VALUE, DONE, SUCCESS, FAILURE, TRUE, FALSE, ABORTED as 'Steps' names them first, then
 -- REFUSED.
