@@ -1,0 +1,127 @@
+#include "compare.h"
+
+#include <inttypes.h>
+#include <stdio.h>
+#include <stdlib.h>
+#include <string.h>
+
+#include "check.h"
+#include "ours.h"
+#include "shrink.h"
+#include "tell.h"
+#include "twin.h"
+
+struct amount {
+    size_t jobs;
+    size_t steps;
+};
+
+static struct amount all;
+static struct amount here; /* of the test that runs */
+static size_t differences;
+static bool told;
+static bool ends_there;
+static size_t answers[ANSWERS];
+static size_t refusals[REFUSED_LENGTH + 1];
+
+static bool differ(const struct job *job)
+{
+    struct reply ours, twin;
+    ours_answer(job, &ours);
+    twin_answer(job, &twin);
+    return memcmp(&ours, &twin, sizeof ours) != 0;
+}
+
+static void tell_difference(const struct job *job)
+{
+    struct job shortest = *job;
+    shrink(&shortest, differ);
+    struct reply ours, twin;
+    ours_answer(&shortest, &ours);
+    twin_answer(&shortest, &twin);
+    printf("  job %zu of this test differs; the shortest that still does:\n", here.jobs);
+    tell_job(&shortest);
+    printf("  the proved machine:\n");
+    tell_reply(&shortest, &ours);
+    printf("  the second program:\n");
+    tell_reply(&shortest, &twin);
+}
+
+static void count(const struct job *job, const struct reply *reply)
+{
+    here.jobs++;
+    refusals[reply->refusal]++;
+    if (job->kind == JOB_STEP) {
+        here.steps += reply->refusal == NOT_REFUSED;
+        answers[reply->answer]++;
+    }
+    if (job->kind == JOB_RUN) {
+        here.steps += reply->taken;
+        for (size_t i = 0; i < reply->taken; i++)
+            answers[reply->written.answers[i]]++;
+    }
+}
+
+static _Noreturn void end_tests(void)
+{
+    printf("FAILED the two machines differ\n");
+    exit(EXIT_FAILURE);
+}
+
+void compare(const struct job *job, struct reply *reply)
+{
+    struct reply twin;
+    ours_answer(job, reply);
+    twin_answer(job, &twin);
+    count(job, &twin);
+    if (memcmp(reply, &twin, sizeof twin) == 0)
+        return;
+    differences++;
+    if (!told)
+        tell_difference(job);
+    told = true;
+    if (ends_there)
+        end_tests();
+}
+
+void end_at_a_difference(void)
+{
+    ends_there = true;
+}
+
+static void (*running)(uint64_t);
+static uint64_t running_seed;
+
+static void run_body(void)
+{
+    here = (struct amount){0, 0};
+    differences = 0;
+    running(running_seed);
+    expect(differences == 0, "%zu of %zu jobs differ", differences, here.jobs);
+    printf("  seed %" PRIu64 ": %zu jobs, %zu steps\n", running_seed, here.jobs,
+           here.steps);
+    all.jobs += here.jobs;
+    all.steps += here.steps;
+}
+
+void compared_test(const char *name, uint64_t seed, void (*body)(uint64_t seed))
+{
+    running = body;
+    running_seed = seed;
+    test(name, run_body);
+}
+
+size_t answers_met(enum answer_kind answer)
+{
+    return answers[answer];
+}
+
+size_t refusals_met(enum refusal refusal)
+{
+    return refusals[refusal];
+}
+
+void tell_compared(void)
+{
+    printf("compared with the second program: %zu jobs, %zu steps\n", all.jobs, all.steps);
+}
