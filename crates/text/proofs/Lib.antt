@@ -1,0 +1,9 @@
+pub mod Cases
+pub mod Inside
+pub mod Puts
+pub mod Ends
+pub mod Answers
+pub mod FieldBytes
+pub mod Back
+pub mod Unique
+pub mod Table
