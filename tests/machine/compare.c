@@ -16,6 +16,8 @@ struct amount {
     size_t steps;
 };
 
+static void (*running)(uint64_t); /* the test that runs, and its seed */
+static uint64_t running_seed;
 static struct amount all;
 static struct amount here; /* of the test that runs */
 static size_t differences;
@@ -39,7 +41,8 @@ static void tell_difference(const struct job *job)
     struct reply ours, twin;
     ours_answer(&shortest, &ours);
     twin_answer(&shortest, &twin);
-    printf("  job %zu of this test differs; the shortest that still does:\n", here.jobs);
+    printf("  seed %" PRIu64 ", job %zu differs; the shortest that still does:\n",
+           running_seed, here.jobs);
     tell_job(&shortest);
     printf("  the proved machine:\n");
     tell_reply(&shortest, &ours);
@@ -88,9 +91,6 @@ void end_at_a_difference(void)
 {
     ends_there = true;
 }
-
-static void (*running)(uint64_t);
-static uint64_t running_seed;
 
 static void run_body(void)
 {

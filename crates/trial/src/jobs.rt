@@ -12,7 +12,6 @@ use crate::head::lent_words;
 use crate::head::words_lent;
 use crate::numbers::low_byte;
 use crate::numbers::low_word;
-use crate::telling::Told;
 use crate::telling::no_counts;
 use crate::telling::tell;
 use crate::telling::told_answer;
