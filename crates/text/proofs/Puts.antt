@@ -4,13 +4,14 @@ use Prim.Native.Nat.{ℕ, zero, suc, _+_, _-_, _/_, _≤_, _<_}
 use mathlib.Core.Bool.{Bool, true, false}
 use mathlib.Core.List.{List, [], _∷_, _++_}
 use native.Mathlib.Omega.{arith}
+use native.Mathlib.Nat.{add-zero}
 use native.Mathlib.Numerals.{add-one}
 use lib.Dec.{ltb}
 use borrow.Author.Tests.{lt-ltb, le-ltb, le-leb, lt-leb}
 use lib.ListN.{length, getD, set, drop, length-append, drop-of-length-le}
-use lib.Seq.{sets, set-comm, drop-cons}
+use lib.Seq.{sets, length-sets, set-comm, drop-cons}
 use Rattle.laws.specs.Choice.{pick}
-use Rattle.text.specs.Writing.{WIDTH-MOST, written, putOf, widthFrom, widthOf, digitOf, digits, decimal}
+use Rattle.text.specs.Writing.{WIDTH-MOST, Written, written, putOf, widthFrom, widthOf, digitOf, digits, decimal}
 
 pub digits-length : (w v : ℕ) → length (digits w v) ≡ w
 unfolding digits
@@ -110,3 +111,39 @@ unfolding decimal
 number-fit v n o o' at e h g =
     let l : length (digits n v) ≡ n = digits-length n v in
     rw (← e) (ap (λ (k : ℕ). written (at + k) o') (sym l) ∙ put-fit (digits n v) o o' at (omega (arith, l)) g)
+
+-- Put after put is one put of both, where both fit.
+pub put-put : (t u : List ℕ) (x : Written) → x .place + length (t ++ u) ≤ length (x .held) → putOf u (putOf t x) ≡ putOf (t ++ u) x
+unfolding putOf
+put-put t u x h =
+    let l = length-append t u in
+    rw (
+      le-leb (x .place + length t) (length (x .held)) (omega (arith, l)),
+      length-sets (x .held) (x .place) t,
+      le-leb (x .place + length t + length u) (length (x .held)) (omega (arith, l)),
+      le-leb (x .place + length (t ++ u)) (length (x .held)) h,
+      sets-append t u (x .held) (x .place),
+    )
+    (ap (λ (k : ℕ). written k (sets (sets (x .held) (x .place) t) (x .place + length t) u)) (omega (arith, l)))
+
+abbrev pub texts : List (List ℕ) → List ℕ
+texts [] = []
+texts (t ∷ ts) = t ++ texts ts
+
+-- One text after the other.
+abbrev pub putAll : List (List ℕ) → Written → Written
+putAll [] x = x
+putAll (t ∷ ts) x = putAll ts (putOf t x)
+
+pub put-place : (t : List ℕ) (x : Written) → x .place + length t ≤ length (x .held) →
+    (putOf t x .place ≡ x .place + length t) × (length (putOf t x .held) ≡ length (x .held))
+unfolding putOf
+put-place t x h = rw (le-leb (x .place + length t) (length (x .held)) h) (refl, length-sets (x .held) (x .place) t)
+
+pub put-all : (ts : List (List ℕ)) (x : Written) → x .place + length (texts ts) ≤ length (x .held) → putAll ts x ≡ putOf (texts ts) x
+unfolding putOf
+put-all [] x h = rw (le-leb (x .place + 0) (length (x .held)) h, add-zero (x .place))
+put-all (t ∷ ts) x h =
+    let l = length-append t (texts ts) in
+    let p = put-place t x (omega (arith, l)) in
+    put-all ts (putOf t x) (omega (arith, l, p .0, p .1)) ∙ put-put t (texts ts) x h

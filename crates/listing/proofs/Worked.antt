@@ -23,8 +23,12 @@ use Rattle.text.specs.Decimals.{push, fieldOf}
 use Rattle.text.specs.Names.{unlikeOf, sameText, otherStepOf, stepOf}
 use Rattle.text.specs.Records.{recordEnd, plainOf, splitOf, recordOf}
 use Rattle.text.specs.Writing.{widthFrom, widthOf, digits, decimal}
-use Rattle.replay.specs.Pieces.{textFrom}
-use Rattle.replay.specs.Listing.{crlf, answerLine, endLine, headerLine, headerOk, past, begin, recordRefusal, skipped, tookRecord, doRecord, doLine, listingFrom, listing}
+use Rattle.listing.specs.Pieces.{textFrom}
+use Rattle.listing.specs.Place.{more64, past, phaseAt, firstPhase, headerOk, beginAt}
+use Rattle.listing.specs.Lines.{crlf, answerLine, endLine}
+use Rattle.listing.specs.Records.{rises, fieldsRefusal, lookAt, answerOf, phaseAfter, placeAfter}
+use Rattle.listing.specs.Listing.{doRecord, doOther, doLine, listingFrom}
+use Rattle.listing.specs.Replay.{beginOf, listing}
 
 -- lines joined, each with its CRLF but for the last
 abbrev joined : List String → List ℕ
@@ -40,7 +44,7 @@ same (x ∷ l) (y ∷ m) = let rest = same l m in pick (eqb x y) rest false
 
 -- "The machine has 4 processors, 16 words, 4 lines, 4 entries, memory zero."
 pub lists : List String → List String → Bool
-unfolding foldRange firstFrom applyFrom dimsRefusal makeRefusal fresh makeOf home findEntry lowest freeSlot liveEntry rolledEntries statusDown committedEntries writtenBack writes snoopLine snoopEntry snoopOne snoop opposes firstOpposing refuses rollOne rollOthers plainRequest loadMiss loadOn load rollOwn dropNormal storeThrough storeMiss storeLine store dropLine finish hit openNormal clearBackup fillBackup fill request missAt miss seek transact commit abort validate interrupt stepRefusal takeStep findOf push fieldOf unlikeOf sameText otherStepOf stepOf recordEnd plainOf splitOf recordOf widthFrom widthOf digits decimal textFrom answerLine endLine headerLine headerOk past begin recordRefusal skipped tookRecord doRecord doLine listingFrom listing joined same
+unfolding foldRange firstFrom applyFrom dimsRefusal makeRefusal fresh makeOf home findEntry lowest freeSlot liveEntry rolledEntries statusDown committedEntries writtenBack writes snoopLine snoopEntry snoopOne snoop opposes firstOpposing refuses rollOne rollOthers plainRequest loadMiss loadOn load rollOwn dropNormal storeThrough storeMiss storeLine store dropLine finish hit openNormal clearBackup fillBackup fill request missAt miss seek transact commit abort validate interrupt stepRefusal takeStep findOf push fieldOf unlikeOf sameText otherStepOf stepOf recordEnd plainOf splitOf recordOf widthFrom widthOf digits decimal textFrom more64 past phaseAt firstPhase headerOk beginAt answerLine endLine rises fieldsRefusal lookAt answerOf phaseAfter placeAfter doRecord doOther doLine listingFrom beginOf listing
 lists input output = same (listing (dims 4 16 4 4) (joined input)) (joined output)
 
 abbrev worked : List String

@@ -1,52 +1,32 @@
--- A text written in pieces: lines one after the other into a bounded buffer, as many as surely fit, and again from there. Stated once over
--- what a line is: the pieces joined are the whole text. Assumes nothing.
+-- The pieces of a text joined are the whole, whatever a line is. Assumes nothing.
 use mathlib.Core.Path.{_≡_, refl, sym, _∙_, ap}
 use mathlib.Core.Bool.{Bool, true, false, not}
-use mathlib.Core.List.{List, [], _∷_, _++_, append-assoc, append-nil}
+use mathlib.Core.List.{List, [], _++_, append-assoc, append-nil}
 use Prim.Native.Nat.{ℕ, zero, suc, _+_, _≤_, _<_}
 use native.Mathlib.Omega.{arith}
 use native.Mathlib.Nat.{zero-add}
 use borrow.Author.Tests.{le-leb, leb-true}
 use lib.Dec.{leb}
-use lib.ListN.{length, length-append, set, take, drop}
+use lib.ListN.{length, length-append, take, drop}
 use lib.Seq.{sets, length-sets, sets-eq, take-append-seam, drop-append-seam}
 use Rattle.laws.specs.Choice.{pick, both}
+use Rattle.text.proofs.Puts.{sets-append}
+use Rattle.listing.specs.Pieces as pieces
+use Rattle.listing.specs.Pieces.{runTo, Carried, carried}
 
--- at most f turns, until a test says stop
-unfoldable pub runTo : {A : Type 0} → (A → Bool) → (A → A) → ℕ → A → A
-runTo stop g zero x = x
-runTo stop g (suc f) x = let r = runTo stop g f (g x) in pick (stop x) x r
-
-pub sets-append : (t u o : List ℕ) (k : ℕ) → sets o k (t ++ u) ≡ sets (sets o k t) (k + length t) u
-sets-append [] u o k = ap (λ (z : ℕ). sets o z u) (omega arith)
-sets-append (a ∷ t) u o k =
-    sets-append t u (set o k a) (suc k) ∙ ap (λ (z : ℕ). sets (sets (set o k a) (suc k) t) z u) (omega arith)
-
--- S is what stands between two lines, more whether another line comes, line that line and next what stands after it. No line is longer than most.
+-- S is what stands between two lines, more whether another line comes, line that line and next what stands after it.
 module _ {S : Type 0} (more : S → Bool) (line : S → List ℕ) (next : S → S) (most : ℕ) where
-  -- the text of at most f lines
-  unfoldable pub textFrom : ℕ → S → List ℕ
-  textFrom zero x = []
-  textFrom (suc f) x = let r = line x ++ textFrom f (next x) in pick (more x) r []
+  abbrev textFrom : ℕ → S → List ℕ
+  textFrom = pieces.textFrom more line next
 
-  -- what a piece carries: where it stands, and the buffer with its first places written
-  pub record Carried : Type 0 where
-    pub state : S
-    pub used : ℕ
-    pub buffer : List ℕ
+  abbrev stops : Carried S → Bool
+  stops = pieces.stops more line next most
 
-  abbrev pub carried : S → ℕ → List ℕ → Carried
-  carried x u o = record { state = x; used = u; buffer = o }
+  abbrev turn : Carried S → Carried S
+  turn = pieces.turn more line next most
 
-  abbrev pub stops : Carried → Bool
-  stops c = not (both (more (c .state)) (leb (c .used + most) (length (c .buffer))))
-
-  abbrev pub turn : Carried → Carried
-  turn c = carried (next (c .state)) (c .used + length (line (c .state))) (sets (c .buffer) (c .used) (line (c .state)))
-
-  -- a piece of at most f lines
-  unfoldable pub pieceOf : ℕ → S → List ℕ → Carried
-  pieceOf f x o = runTo stops turn f (carried x 0 o)
+  abbrev pieceOf : ℕ → S → List ℕ → Carried S
+  pieceOf = pieces.pieceOf more line next most
 
   -- μ falls with each line, so that there is an end
   module _ (μ : S → ℕ) (falls : (x : S) → more x ≡ true → μ (next x) < μ x) where
@@ -56,7 +36,7 @@ module _ {S : Type 0} (more : S → Bool) (line : S → List ℕ) (next : S → 
 
     -- any number of lines that is enough gives the same
     pub text-fuel : (f g : ℕ) (x : S) → μ x ≤ f → μ x ≤ g → textFrom f x ≡ textFrom g x
-    unfolding textFrom
+    unfolding pieces.textFrom
     text-fuel zero zero x h k = refl
     text-fuel zero (suc g) x h k = by (more x) refl
       where
@@ -77,7 +57,7 @@ module _ {S : Type 0} (more : S → Bool) (line : S → List ℕ) (next : S → 
         by false e ih = refl
 
     pub whole-turn : (x : S) → more x ≡ true → wholeText x ≡ line x ++ wholeText (next x)
-    unfolding wholeText textFrom
+    unfolding wholeText pieces.textFrom
     whole-turn x e = go (μ x) refl
       where
         go : (n : ℕ) → μ x ≡ n → textFrom n x ≡ line x ++ textFrom (μ (next x)) (next x)
@@ -87,7 +67,7 @@ module _ {S : Type 0} (more : S → Bool) (line : S → List ℕ) (next : S → 
             (ap (λ (t : List ℕ). line x ++ t) (text-fuel n (μ (next x)) (next x) (omega (arith, falls x e)) (omega arith)))
 
     pub whole-end : (x : S) → more x ≡ false → wholeText x ≡ []
-    unfolding wholeText textFrom
+    unfolding wholeText pieces.textFrom
     whole-end x e = go (μ x)
       where
         go : (n : ℕ) → textFrom n x ≡ []
@@ -96,7 +76,7 @@ module _ {S : Type 0} (more : S → Bool) (line : S → List ℕ) (next : S → 
 
     module _ (long : (x : S) → length (line x) ≤ most) (o : List ℕ) where
       -- the buffer holds t and is else as it was
-      abbrev pub holding : S → List ℕ → Carried
+      abbrev pub holding : S → List ℕ → Carried S
       holding x t = carried x (length t) (sets o 0 t)
 
       pub turned : (x : S) (t : List ℕ) → turn (holding x t) ≡ holding (next x) (t ++ line x)
@@ -106,7 +86,7 @@ module _ {S : Type 0} (more : S → Bool) (line : S → List ℕ) (next : S → 
           (sym (sets-append t (line x) o 0 ∙ ap (λ (k : ℕ). sets (sets o 0 t) k (line x)) (zero-add (length t)))))
 
       -- what a piece adds to the text t that the buffer holds, and that with the whole text from where it stopped it is the whole from x
-      pub record Piece (x : S) (t : List ℕ) (c : Carried) : Type 0 where
+      pub record Piece (x : S) (t : List ℕ) (c : Carried S) : Type 0 where
         pub text : List ℕ
         pub holds : c ≡ holding (c .state) (t ++ text)
         pub fits : length (t ++ text) ≤ length o
@@ -145,24 +125,24 @@ module _ {S : Type 0} (more : S → Bool) (line : S → List ℕ) (next : S → 
       -- one piece: what it wrote, with the whole text from where it stopped, is the whole text
       pub piece-joins : (f : ℕ) (x : S) →
           take (pieceOf f x o .used) (pieceOf f x o .buffer) ++ wholeText (pieceOf f x o .state) ≡ wholeText x
-      unfolding pieceOf
+      unfolding pieces.pieceOf
       piece-joins f x = at (piece-from f x [] (omega arith))
         where
-          at : {c : Carried} → Piece x [] c → take (c .used) (c .buffer) ++ wholeText (c .state) ≡ wholeText x
+          at : {c : Carried S} → Piece x [] c → take (c .used) (c .buffer) ++ wholeText (c .state) ≡ wholeText x
           at {c} p =
               rw (p .holds, sets-eq (p .text) o 0 (omega (arith, p .fits)), take-append-seam (p .text) (drop (0 + length (p .text)) o)) (p .joins)
 
       -- what stands past it is kept
       pub piece-keeps : (f : ℕ) (x : S) → drop (pieceOf f x o .used) (pieceOf f x o .buffer) ≡ drop (pieceOf f x o .used) o
-      unfolding pieceOf
+      unfolding pieces.pieceOf
       piece-keeps f x = at (piece-from f x [] (omega arith))
         where
-          at : {c : Carried} → Piece x [] c → drop (c .used) (c .buffer) ≡ drop (c .used) o
+          at : {c : Carried S} → Piece x [] c → drop (c .used) (c .buffer) ≡ drop (c .used) o
           at {c} p =
               rw (p .holds, sets-eq (p .text) o 0 (omega (arith, p .fits)), drop-append-seam (p .text) (drop (0 + length (p .text)) o), zero-add)
 
     -- a piece never goes back, and one that has a line to write and room for it goes on
-    pub never-back : (f : ℕ) (c : Carried) → μ (runTo stops turn f c .state) ≤ μ (c .state)
+    pub never-back : (f : ℕ) (c : Carried S) → μ (runTo stops turn f c .state) ≤ μ (c .state)
     unfolding runTo
     never-back zero c = omega arith
     never-back (suc f) c = by (more (c .state)) (leb (c .used + most) (length (c .buffer))) refl (never-back f (turn c))
@@ -174,7 +154,7 @@ module _ {S : Type 0} (more : S → Bool) (line : S → List ℕ) (next : S → 
         by true true e h = omega (arith, h, falls (c .state) e)
 
     pub goes-on : (x : S) (o : List ℕ) → more x ≡ true → most ≤ length o → μ (pieceOf (μ x) x o .state) < μ x
-    unfolding pieceOf runTo
+    unfolding pieces.pieceOf runTo
     goes-on x o e h = go (μ x) refl
       where
         go : (n : ℕ) → μ x ≡ n → μ (runTo stops turn n (carried x 0 o) .state) < μ x
@@ -182,27 +162,27 @@ module _ {S : Type 0} (more : S → Bool) (line : S → List ℕ) (next : S → 
         go (suc n) z =
             rw (e, le-leb (0 + most) (length o) (omega arith)) (omega (arith, falls x e, never-back n (turn (carried x 0 o))))
 
-    -- all pieces, each into a buffer of its own of at least `most` places: joined they are the whole
-    module _ (long : (x : S) → length (line x) ≤ most) (os : ℕ → List ℕ) (big : (k : ℕ) → most ≤ length (os k)) where
-      abbrev pub pieceAt : ℕ → S → Carried
-      pieceAt k x = pieceOf (μ x) x (os k)
+    -- nothing is written where no line comes
+    pub piece-none : (f : ℕ) (x : S) (o : List ℕ) → more x ≡ false → pieceOf f x o ≡ carried x 0 o
+    unfolding pieces.pieceOf runTo
+    piece-none zero x o e = refl
+    piece-none (suc f) x o e = rw e
 
-      unfoldable pub joinedFrom : ℕ → S → List ℕ
-      joinedFrom zero x = []
-      joinedFrom (suc f) x =
-          let r = take (pieceAt f x .used) (pieceAt f x .buffer) ++ joinedFrom f (pieceAt f x .state) in pick (more x) r []
+    -- what is written is never taken back, so that a piece that has a line to write and room for it writes
+    pub never-less : (f : ℕ) (c : Carried S) → c .used ≤ runTo stops turn f c .used
+    unfolding runTo
+    never-less zero c = omega arith
+    never-less (suc f) c = by (stops c) (never-less f (turn c))
+      where
+        by : (b : Bool) → turn c .used ≤ runTo stops turn f (turn c) .used → c .used ≤ pick b c (runTo stops turn f (turn c)) .used
+        by true h = omega arith
+        by false h = omega (arith, h)
 
-      pub joined-whole : (f : ℕ) (x : S) → μ x ≤ f → joinedFrom f x ≡ wholeText x
-      unfolding joinedFrom
-      joined-whole zero x h = sym (whole-end x (none (more x) refl))
-        where
-          none : (b : Bool) → more x ≡ b → b ≡ false
-          none true e = absurd (omega (arith, falls x e))
-          none false e = refl
-      joined-whole (suc f) x h =
-          by (more x) refl (λ e. joined-whole f (pieceAt f x .state) (omega (arith, goes-on x (os f) e (big f))))
-        where
-          by : (b : Bool) → more x ≡ b → (more x ≡ true → joinedFrom f (pieceAt f x .state) ≡ wholeText (pieceAt f x .state)) →
-              pick b (take (pieceAt f x .used) (pieceAt f x .buffer) ++ joinedFrom f (pieceAt f x .state)) [] ≡ wholeText x
-          by true e ih = rw (ih e) (piece-joins long (os f) (μ x) x)
-          by false e ih = sym (whole-end x e)
+    pub writes : ((x : S) → 0 < length (line x)) → (x : S) (o : List ℕ) → more x ≡ true → most ≤ length o → 0 < pieceOf (μ x) x o .used
+    unfolding pieces.pieceOf runTo
+    writes some x o e h = go (μ x) refl
+      where
+        go : (n : ℕ) → μ x ≡ n → 0 < runTo stops turn n (carried x 0 o) .used
+        go zero z = absurd (omega (arith, falls x e))
+        go (suc n) z =
+            rw (e, le-leb (0 + most) (length o) (omega arith)) (omega (arith, some x, never-less n (turn (carried x 0 o))))

@@ -1,0 +1,9 @@
+pub mod Fitting
+pub mod Turning
+pub mod Joining
+pub mod Falling
+pub mod Doing
+pub mod Beginning
+pub mod Whole
+pub mod Words
+pub mod Worked

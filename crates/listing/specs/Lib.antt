@@ -1,0 +1,6 @@
+pub mod Pieces
+pub mod Place
+pub mod Lines
+pub mod Records
+pub mod Listing
+pub mod Replay

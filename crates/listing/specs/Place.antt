@@ -1,0 +1,66 @@
+-- Where a replay stands between two lines of its listing. Quotes are of "The replay program and its text".
+use mathlib.Core.Bool.{Bool, false}
+use mathlib.Core.List.{List}
+use Prim.Native.Nat.{ℕ, _+_}
+use lib.Dec.{eqb, ltb, leb}
+use lib.ListN.{length}
+use Rattle.laws.specs.Choice.{pick}
+use Rattle.machine.specs.Refusals.{accepted}
+use Rattle.text.specs.Quoted.{bytes}
+use Rattle.text.specs.Names.{sameText}
+use Rattle.text.specs.Records.{recordEnd}
+use Rattle.listing.specs.declared.places.Place.{Place}
+
+-- 13: "another header of any length, or empty input, is 13"
+abbrev pub wrongHeader : ℕ
+wrongHeader = 13
+
+-- What the next line is: the listing's own header, a refusal before any record, a record's, END, or none.
+abbrev pub HEADER : ℕ
+HEADER = 0
+
+abbrev pub REFUSAL : ℕ
+REFUSAL = 1
+
+abbrev pub RECORD : ℕ
+RECORD = 2
+
+abbrev pub END : ℕ
+END = 3
+
+abbrev pub NOTHING : ℕ
+NOTHING = 4
+
+abbrev pub place : ℕ → ℕ → ℕ → ℕ → Bool → ℕ → ℕ → ℕ → Place
+place phase refusal at number taken grant commits cycles =
+    record { phase = phase; refusal = refusal; at = at; number = number; taken = taken; grant = grant; commits = commits; cycles = cycles }
+
+abbrev pub withPhase : Place → ℕ → Place
+withPhase x k = place k (x .refusal) (x .at) (x .number) (x .taken) (x .grant) (x .commits) (x .cycles)
+
+-- counts stand still at the largest number of 64 bits, which no input of 4 MiB reaches
+unfoldable pub more64 : ℕ → ℕ → ℕ
+more64 n k = pick (leb (n + k) 18446744073709551615) (n + k) 18446744073709551615
+
+-- past a record's CRLF, if it has one
+unfoldable pub past : List ℕ → ℕ → ℕ
+past s e = pick (ltb e (length s)) (e + 2) e
+
+-- what comes at a place of the input: a record, or the end
+unfoldable pub phaseAt : List ℕ → ℕ → ℕ
+phaseAt s at = pick (ltb at (length s)) RECORD END
+
+-- what comes after the listing's own header
+unfoldable pub firstPhase : List ℕ → Place → ℕ
+firstPhase s x = pick (eqb (x .refusal) accepted) (phaseAt s (x .at)) REFUSAL
+
+-- "The header is `grant,core,op,word,value`"
+unfoldable pub headerOk : List ℕ → Bool
+headerOk s = sameText s 0 (recordEnd s 0) (bytes "grant,core,op,word,value")
+
+-- where the replay of a text begins, on a machine whose making was answered by n: refused, with n or 13, or at its first record
+unfoldable pub beginAt : List ℕ → ℕ → Place
+beginAt s n =
+    let refused = place HEADER n 0 0 false 0 0 0 in
+    let wrong = place HEADER wrongHeader 0 0 false 0 0 0 in
+    pick (eqb n accepted) (pick (headerOk s) (place HEADER accepted (past s (recordEnd s 0)) 0 false 0 0 0) wrong) refused

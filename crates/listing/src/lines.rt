@@ -1,0 +1,80 @@
+// The listing's lines, written where a line surely fits.
+
+use entry::answer::Answer;
+use entry::answer::Answered;
+use text::writing::put_bytes;
+use text::writing::put_number;
+ghost use mathlib.Core.Path.{_≡_};
+ghost use Prim.Native.Nat.{_+_, _≤_};
+ghost use lib.ListN.{length};
+ghost use Rattle.entry.specs.Answer.{answerName};
+ghost use Rattle.text.specs.Quoted.{bytes};
+ghost use Rattle.text.specs.Writing.{written, putOf};
+ghost use Rattle.listing.specs.Lines.{mostLine, shown, answerLine, endLine, headerLine};
+
+// No line is longer.
+pub(crate) const LINE_MOST: usize = 72;
+
+fn put_name(out: &mut [u8], at: usize, answer: Answer) -> usize
+    ensures { λ r. ⌜ written r (now (out .exit)) ≡ putOf (bytes (answerName answer)) (written at (now (out .entry))) ⌝ }
+{
+    match answer {
+        Answer::Value(_) => put_bytes(out, at, b"VALUE"),
+        Answer::Done => put_bytes(out, at, b"DONE"),
+        Answer::Success => put_bytes(out, at, b"SUCCESS"),
+        Answer::Failure => put_bytes(out, at, b"FAILURE"),
+        Answer::True => put_bytes(out, at, b"TRUE"),
+        Answer::False => put_bytes(out, at, b"FALSE"),
+        Answer::Aborted => put_bytes(out, at, b"ABORTED"),
+        Answer::Refused(_) => put_bytes(out, at, b"REFUSED"),
+    }
+}
+
+// A refusal shows its number, every other answer its value.
+fn shown(answer: Answer) -> u64
+    ensures { λ r. ⌜ r ≡ shown answer ⌝ }
+{
+    match answer {
+        Answer::Value(v) => v as u64,
+        Answer::Done => 0,
+        Answer::Success => 0,
+        Answer::Failure => 0,
+        Answer::True => 0,
+        Answer::False => 0,
+        Answer::Aborted => 0,
+        Answer::Refused(n) => n as u64,
+    }
+}
+
+pub(crate) fn write_answer(out: &mut [u8], at: usize, number: u64, told: Answered) -> usize
+    requires { ⌜ at + mostLine ≤ length (now out) ⌝ }
+    ensures { λ r. ⌜ written r (now (out .exit)) ≡ putOf (answerLine number told) (written at (now (out .entry))) ⌝ }
+{
+    let answer = told.answer;
+    let counts = told.counts;
+    let a = put_number(out, at, number);
+    let b = put_bytes(out, a, b",");
+    let c = put_name(out, b, answer);
+    let d = put_bytes(out, c, b",");
+    let e = put_number(out, d, shown(answer));
+    let f = put_bytes(out, e, b",");
+    let g = put_number(out, f, counts.cycles());
+    put_bytes(out, g, b"\r\n")
+}
+
+pub(crate) fn write_end(out: &mut [u8], at: usize, commits: u64, cycles: u64) -> usize
+    requires { ⌜ at + mostLine ≤ length (now out) ⌝ }
+    ensures { λ r. ⌜ written r (now (out .exit)) ≡ putOf (endLine commits cycles) (written at (now (out .entry))) ⌝ }
+{
+    let a = put_bytes(out, at, b"END,COMMITTED,");
+    let b = put_number(out, a, commits);
+    let c = put_bytes(out, b, b",");
+    let d = put_number(out, c, cycles);
+    put_bytes(out, d, b"\r\n")
+}
+
+pub(crate) fn write_header(out: &mut [u8], at: usize) -> usize
+    ensures { λ r. ⌜ written r (now (out .exit)) ≡ putOf headerLine (written at (now (out .entry))) ⌝ }
+{
+    put_bytes(out, at, b"record,answer,value,bus\r\n")
+}

@@ -1,0 +1,188 @@
+// One record: looked at, answered by the machine, and left behind.
+
+use crate::places::END;
+use crate::places::Place;
+use crate::places::more;
+use crate::places::past;
+use crate::places::phase_at;
+use entry::answer::Answer;
+use entry::answer::Answered;
+use entry::answer::Counts;
+use entry::numbers::INTERRUPT;
+use machine::Copies;
+use machine::Dims;
+use machine::Flags;
+use machine::Memory;
+use text::records::Parsed;
+use text::records::Record;
+use text::records::read_record;
+use text::records::record_end;
+ghost use mathlib.Core.Path.{_≡_};
+ghost use Rattle.entry.specs.Answer.{refusedBy};
+ghost use Rattle.machine.specs.State.{caches, outcome};
+ghost use Rattle.listing.specs.Records.{rises, fieldsRefusal, looked, lookAt, answerOf, isSuccess, phaseAfter, placeAfter, noFields};
+
+const NO_SUCH_STEP: u8 = 6;
+
+const NOT_RISING: u8 = 12;
+
+const TOO_LONG: u8 = 14;
+
+// The record that holds the byte after these is too long.
+const BYTES_MOST: usize = 4194304;
+
+// Where the next record begins, the refusal or 0, and the fields.
+pub struct Looked {
+    pub next: usize,
+    pub refusal: u8,
+    pub fields: Parsed,
+}
+
+fn rises(x: Place, grant: u32) -> bool
+    ensures { λ r. ⌜ r ≡ rises x grant ⌝ }
+{
+    if x.taken {
+        return x.grant < grant;
+    }
+    true
+}
+
+fn fields_refusal(d: Dims, x: Place, f: Parsed) -> u8
+    ensures { λ r. ⌜ r ≡ fieldsRefusal d x f ⌝ }
+{
+    if f.op > INTERRUPT {
+        return NO_SUCH_STEP;
+    }
+    if !rises(x, f.grant) {
+        return NOT_RISING;
+    }
+    steps::step_refusal(d, f.op, f.core as usize, f.word)
+}
+
+fn unread(next: usize, refusal: u8) -> Looked
+    ensures { λ r. ⌜ r ≡ looked next refusal noFields ⌝ }
+{
+    let none = Parsed {
+        grant: 0,
+        core: 0,
+        op: 0,
+        word: 0,
+        value: 0,
+    };
+    Looked {
+        next: next,
+        refusal: refusal,
+        fields: none,
+    }
+}
+
+pub(crate) fn look_at(s: &[u8], d: Dims, x: Place) -> Looked
+    ensures { λ r. ⌜ r ≡ lookAt (now (s .entry)) d x ⌝ }
+{
+    let at = x.at;
+    let end = record_end(s, at);
+    let next = past(s, end);
+    if next > BYTES_MOST {
+        return unread(next, TOO_LONG);
+    }
+    match read_record(s, at, end) {
+        Record::Refused(n) => unread(next, n),
+        Record::Fields(f) => {
+            let k = fields_refusal(d, x, f);
+            Looked {
+                next: next,
+                refusal: k,
+                fields: f,
+            }
+        }
+    }
+}
+
+pub(crate) fn refused(number: u8) -> Answered
+    ensures { λ r. ⌜ r ≡ refusedBy number ⌝ }
+{
+    let c = Counts {
+        read: 0,
+        rfo: 0,
+        write: 0,
+        t_read: 0,
+        t_rfo: 0,
+        busy: 0,
+    };
+    Answered {
+        answer: Answer::Refused(number),
+        counts: c,
+    }
+}
+
+// A record that is not refused uses a word below 256, or none.
+pub(crate) fn answer_of(
+    memory: &mut Memory,
+    lines: &mut Copies,
+    entries: &mut Copies,
+    flags: &mut Flags,
+    d: Dims,
+    l: Looked,
+) -> Answered
+    ensures { λ r. ⌜ outcome r (caches (now (memory .exit)) (now (lines .exit)) (now (entries .exit)) (now (flags .exit))) ≡ answerOf d l (caches (now (memory .entry)) (now (lines .entry)) (now (entries .entry)) (now (flags .entry))) ⌝ }
+{
+    if l.refusal != 0 {
+        return refused(l.refusal);
+    }
+    let f = l.fields;
+    let p = f.core as usize;
+    let word = (f.word % 256) as u8;
+    steps::take_step(memory, lines, entries, flags, d, f.op, p, word, f.value)
+}
+
+fn successes(answer: Answer) -> u64
+    ensures { λ r. ⌜ r ≡ isSuccess answer ⌝ }
+{
+    match answer {
+        Answer::Value(_) => 0,
+        Answer::Done => 0,
+        Answer::Success => 1,
+        Answer::Failure => 0,
+        Answer::True => 0,
+        Answer::False => 0,
+        Answer::Aborted => 0,
+        Answer::Refused(_) => 0,
+    }
+}
+
+fn phase_after(s: &[u8], l: Looked) -> u8
+    ensures { λ r. ⌜ r ≡ phaseAfter (now (s .entry)) l ⌝ }
+{
+    if l.refusal == TOO_LONG {
+        return END;
+    }
+    phase_at(s, l.next)
+}
+
+pub(crate) fn place_after(s: &[u8], x: Place, l: Looked, told: Answered) -> Place
+    ensures { λ r. ⌜ r ≡ placeAfter (now (s .entry)) x l told ⌝ }
+{
+    let answer = told.answer;
+    let counts = told.counts;
+    let phase = phase_after(s, l);
+    let number = more(x.number, 1);
+    let commits = more(x.commits, successes(answer));
+    let cycles = more(x.cycles, counts.cycles());
+    let mut taken = x.taken;
+    let mut grant = x.grant;
+    if l.refusal == 0 {
+        let f = l.fields;
+        taken = true;
+        grant = f.grant;
+    }
+    Place {
+        phase: phase,
+        refusal: x.refusal,
+        at: l.next,
+        number: number,
+        taken: taken,
+        grant: grant,
+        commits: commits,
+        cycles: cycles,
+    }
+}
