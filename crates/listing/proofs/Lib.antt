@@ -7,3 +7,4 @@ pub mod Beginning
 pub mod Whole
 pub mod Words
 pub mod Worked
+pub mod Unique
