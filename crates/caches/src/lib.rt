@@ -10,6 +10,9 @@ use machine::Dims;
 use machine::Flags;
 use machine::Memory;
 ghost use mathlib.Core.Path.{_≡_};
+ghost use Prim.Native.Nat.{_≤_};
+ghost use lib.Dec.{ltb};
+ghost use Rattle.laws.specs.Choice.{pick};
 ghost use Rattle.entry.specs.Packing.{noEntry};
 ghost use Rattle.machine.specs.State.{copyAt, withCopy};
 ghost use Rattle.machine.specs.Own.{home, holds, findEntry, lowest, freeSlot, liveEntry};
@@ -34,16 +37,28 @@ pub fn holds(e: Entry, word: u8) -> bool
     e.state != INVALID && e.word == word
 }
 
+// Places go round after 64, so that a search need not go further.
+fn reach(n: usize) -> usize
+    ensures { λ r. ⌜ r ≡ pick (ltb 64 n) 64 n ⌝ }
+    ensures { λ r. ⌜ r ≤ 64 ⌝ }
+{
+    if n > 64 {
+        return 64;
+    }
+    n
+}
+
 pub fn find_entry(entries: &Copies, p: usize, n: usize, tag: u8, word: u8) -> usize
     ensures { λ r. ⌜ r ≡ findEntry (now (entries .entry)) p n tag word ⌝ }
 {
     let base = p % 8 * 64;
+    let m = reach(n);
     let mut i: usize = 0;
     let at = loop {
-        if i >= n {
+        if i >= m {
             break n;
         }
-        let j = base + i % 64;
+        let j = base + i;
         if entry::packed::is_entry(entries[j], tag, word) {
             break i;
         }
@@ -56,12 +71,13 @@ pub fn live_entry(entries: &Copies, p: usize, n: usize, word: u8) -> usize
     ensures { λ r. ⌜ r ≡ liveEntry (now (entries .entry)) p n word ⌝ }
 {
     let base = p % 8 * 64;
+    let m = reach(n);
     let mut i: usize = 0;
     let at = loop {
-        if i >= n {
+        if i >= m {
             break n;
         }
-        let j = base + i % 64;
+        let j = base + i;
         if entry::packed::is_live(entries[j], word) {
             break i;
         }

@@ -28,7 +28,8 @@ write-back-requires : tie.Need-write-back-requires
 write-back-requires c κs = search needs
 
 returns : tie.Need-returns
-returns c = (rw (← c .before .before .unpack .ensures) (c .write-back .ensures .0), refl, rw (← c .before .before .unpack .ensures) (c .write-back .ensures .1))
+returns c =
+    (rw (← c .before .before .unpack .ensures) (c .write-back .ensures .0), refl, rw (← c .before .before .unpack .ensures) (c .write-back .ensures .1))
 
 pub clear-spec : {M : Type 1} → statement M
 clear-spec =

@@ -53,7 +53,9 @@ loop-less : tie.Need-loop-less Inv-loop μ-loop
 loop-less c = search needs
 
 loop-again : tie.Need-loop-again Inv-loop μ-loop
-loop-again c = (search needs, rw (c .pack .ensures, c .before .committed .ensures, c .before .before .unpack .ensures) (sym (apply-turn _ _ _ _ _ _ (search needs)) ∙ c .before .before .before .before .before .loop .inv .1))
+loop-again c =
+    let c1 = c .before .before .before .before .before in
+    (search needs, rw (c .pack .ensures, c .before .committed .ensures, c .before .before .unpack .ensures) (sym (apply-turn _ _ _ _ _ _ (search needs)) ∙ c1 .loop .inv .1))
 
 returns : tie.Need-returns Inv-loop μ-loop
 returns c = sym (apply-end _ _ _ _ _ _ (search needs)) ∙ c .before .loop .inv .1

@@ -16,14 +16,30 @@ lowest-requires-2 c κs = search needs
 
 returns-2 : tie.Need-returns-2
 unfolding freeSlot
-returns-2 c = rw (← c .before .before .before .lowest .ensures, le-ltb _ _ (c .before .before .if1 .left), ← c .before .lowest2 .ensures, lt-ltb _ _ (c .if2 .taken))
+returns-2 c =
+    let c1 = c .before .before .before in
+    rw (
+      ← c1 .lowest .ensures,
+      le-ltb _ _ (c .before .before .if1 .left),
+      ← c .before .lowest2 .ensures,
+      lt-ltb _ _ (c .if2 .taken),
+    )
 
 lowest-requires-3 : tie.Need-lowest-requires-3
 lowest-requires-3 c κs = search needs
 
 returns-3 : tie.Need-returns-3
 unfolding freeSlot
-returns-3 c = rw (← c .before .before .before .before .lowest .ensures, le-ltb _ _ (c .before .before .before .if1 .left), ← c .before .before .lowest2 .ensures, le-ltb _ _ (c .before .if2 .left)) (c .lowest3 .ensures)
+returns-3 c =
+    let c1 = c .before .before .before in
+    let c2 = c1 .before in
+    rw (
+      ← c2 .lowest .ensures,
+      le-ltb _ _ (c1 .if1 .left),
+      ← c .before .before .lowest2 .ensures,
+      le-ltb _ _ (c .before .if2 .left),
+    )
+    (c .lowest3 .ensures)
 
 pub free-slot-spec : {M : Type 1} → statement M
 free-slot-spec =

@@ -53,7 +53,9 @@ loop-less : tie.Need-loop-less Inv-loop μ-loop
 loop-less c = search needs
 
 loop-again : tie.Need-loop-again Inv-loop μ-loop
-loop-again c = (search needs, rw (c .pack .ensures, c .before .rolled-back .ensures, c .before .before .unpack .ensures) (sym (apply-turn _ _ _ _ _ _ (search needs)) ∙ c .before .before .before .before .before .loop .inv .1))
+loop-again c =
+    let c1 = c .before .before .before .before .before in
+    (search needs, rw (c .pack .ensures, c .before .rolled-back .ensures, c .before .before .unpack .ensures) (sym (apply-turn _ _ _ _ _ _ (search needs)) ∙ c1 .loop .inv .1))
 
 add-k : tie.Need-add-k Inv-loop μ-loop
 add-k c = search needs
