@@ -7,7 +7,7 @@
 
 #include "check.h"
 #include "compare.h"
-#include "ours.h"
+#include "driver.h"
 #include "suites.h"
 
 static void everything_is_met(void)
@@ -20,7 +20,7 @@ static void everything_is_met(void)
 
 static void driver_ends(void)
 {
-    expect(ours_end(), "the driver writes more, or does not end well");
+    expect(driver_end(), "the driver writes more, or does not end well");
 }
 
 int main(int argc, char **argv)
@@ -31,7 +31,7 @@ int main(int argc, char **argv)
     }
     if (strcmp(argv[1], "first") == 0)
         end_at_a_difference();
-    ours_start(argv + 2);
+    driver_start(argv + 2);
     test_making();
     test_stepping();
     test_running();

@@ -1,76 +1,9 @@
 #include "ours.h"
 
-#include <signal.h>
-#include <stdio.h>
-#include <stdlib.h>
-#include <sys/wait.h>
-#include <unistd.h>
-
-static pid_t process;
-static int jobs;
-static int replies;
-
-static _Noreturn void give_up(const char *what)
-{
-    printf("  the proved machine's driver: %s\n", what);
-    printf("FAILED the proved machine's driver answers every job\n");
-    exit(EXIT_FAILURE);
-}
-
-static _Noreturn void become(char *const command[], int in, int out)
-{
-    if (dup2(in, STDIN_FILENO) >= 0 && dup2(out, STDOUT_FILENO) >= 0)
-        execv(command[0], command);
-    perror(command[0]);
-    _exit(127);
-}
-
-void ours_start(char *const command[])
-{
-    int to[2], from[2];
-    signal(SIGPIPE, SIG_IGN);
-    if (pipe(to) != 0 || pipe(from) != 0)
-        give_up("no pipe can be made");
-    process = fork();
-    if (process < 0)
-        give_up("no process can be made");
-    if (process == 0) {
-        close(to[1]);
-        close(from[0]);
-        become(command, to[0], from[1]);
-    }
-    close(to[0]);
-    close(from[1]);
-    jobs = to[1];
-    replies = from[0];
-}
+#include "driver.h"
 
 void ours_answer(const struct job *job, struct reply *reply)
 {
-    const char *next = (const char *)job;
-    for (size_t left = sizeof *job; left > 0;) {
-        ssize_t sent = write(jobs, next, left);
-        if (sent <= 0)
-            give_up("it takes no more jobs");
-        next += sent;
-        left -= (size_t)sent;
-    }
-    char *place = (char *)reply;
-    for (size_t left = sizeof *reply; left > 0;) {
-        ssize_t got = read(replies, place, left);
-        if (got <= 0)
-            give_up("a reply is cut short");
-        place += got;
-        left -= (size_t)got;
-    }
-}
-
-bool ours_end(void)
-{
-    char more;
-    int status;
-    close(jobs);
-    bool silent = read(replies, &more, 1) == 0;
-    close(replies);
-    return waitpid(process, &status, 0) == process && status == 0 && silent;
+    driver_send(job, sizeof *job);
+    driver_receive(reply, sizeof *reply);
 }
