@@ -1,3 +1,4 @@
+# shellcheck shell=sh disable=SC2034 # whoever sources this ends with $failed
 # Sourced by the tests of programs: a folder $work of their own, and what they compare.
 work=$(mktemp -d) || exit 1
 trap 'rm -rf "$work"' EXIT

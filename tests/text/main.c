@@ -13,7 +13,7 @@
 #include "suites.h"
 
 /* Far fewer than are met today, and far more than where little is compared. */
-enum { TEXTS = 100000, OF_A_RECORD = 5000, OF_A_SIZE = 200, OF_AN_ANSWER = 2000 };
+enum { TEXTS = 200000, OF_A_RECORD = 10000, OF_A_SIZE = 200, OF_AN_ANSWER = 5000 };
 
 static void expect_refusal(enum refusal refusal, size_t least)
 {

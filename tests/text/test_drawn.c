@@ -22,34 +22,34 @@ static void logs(struct dice *dice, int texts, enum oddity oddity, uint32_t dama
 static void good_logs(uint64_t seed)
 {
     struct dice dice = {seed};
-    logs(&dice, 4000, NEVER_ODD, 0);
+    logs(&dice, 10000, NEVER_ODD, 0);
 }
 
 static void odd_logs(uint64_t seed)
 {
     struct dice dice = {seed};
-    logs(&dice, 18000, SELDOM_ODD, 0);
-    logs(&dice, 9000, OFTEN_ODD, 0);
+    logs(&dice, 40000, SELDOM_ODD, 0);
+    logs(&dice, 20000, OFTEN_ODD, 0);
 }
 
 static void damaged_logs(uint64_t seed)
 {
     struct dice dice = {seed};
-    logs(&dice, 34000, NEVER_ODD, 3);
-    logs(&dice, 4000, NEVER_ODD, 30);
+    logs(&dice, 80000, NEVER_ODD, 3);
+    logs(&dice, 10000, NEVER_ODD, 30);
 }
 
 static void damaged_odd_logs(uint64_t seed)
 {
     struct dice dice = {seed};
-    logs(&dice, 14000, SELDOM_ODD, 3);
+    logs(&dice, 40000, SELDOM_ODD, 3);
 }
 
 static void random_bytes(uint64_t seed)
 {
     static struct job job;
     struct dice dice = {seed};
-    for (int i = 0; i < 4000; i++) {
+    for (int i = 0; i < 10000; i++) {
         bool any = roll_one_in(&dice, 2);
         draw_job(&job, &dice, draw_any_dimensions(&dice));
         write_text(&job, roll_one_in(&dice, 6) ? "" : HEADER CRLF);
@@ -75,7 +75,7 @@ static void random_scraps(uint64_t seed)
 {
     static struct job job;
     struct dice dice = {seed};
-    for (int i = 0; i < 4000; i++) {
+    for (int i = 0; i < 10000; i++) {
         draw_job(&job, &dice, draw_any_dimensions(&dice));
         write_text(&job, roll_one_in(&dice, 6) ? "" : HEADER CRLF);
         for (uint32_t left = roll_below(&dice, 40); left > 0; left--)
