@@ -1,4 +1,3 @@
 pub mod Padding
 pub mod Words
-pub mod Turns
 pub mod Unique

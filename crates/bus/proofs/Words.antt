@@ -1,8 +1,8 @@
 -- A step that is not refused uses a word below 256, or none, so that the word's low eight bits are enough.
-use mathlib.Core.Path.{_≡_, refl, sym, _∙_}
+use mathlib.Core.Path.{_≡_, refl}
 use mathlib.Core.Bool.{Bool, true, false}
 use mathlib.Core.List.{List}
-use Prim.Native.Nat.{ℕ, _%_, _<_, _≤_}
+use Prim.Native.Nat.{ℕ, _%_, _≤_}
 use native.Mathlib.Omega.{arith}
 use lib.Dec.{eqb, ltb, leb}
 use lib.ListN.{length}

@@ -1,18 +1,14 @@
-// The published machine: made, tested, asked, stepped and run by value. Inside, nothing that holds an array goes by value.
+// The published machine: made, tested, asked and stepped by value. Inside, nothing that holds an array goes by value.
 
-mod columns;
 mod making;
-mod running;
 mod settling;
 
-use crate::columns::also;
 use entry::answer::Answer;
 use entry::answer::Answered;
 use entry::answer::Counts;
 use machine::Dims;
 use machine::Machine;
 use machine::Made;
-use machine::Ran;
 use machine::Stepped;
 ghost use mathlib.Core.Path.{_≡_};
 ghost use Rattle.entry.specs.Answer.{refusedBy};
@@ -20,8 +16,6 @@ ghost use Rattle.machine.specs.State.{cachesOf};
 ghost use Rattle.machine.specs.Making.{dims, makeOf};
 ghost use Rattle.machine.specs.SoundTest.{soundOf};
 ghost use Rattle.machine.specs.Step.{stepOf, settledOf};
-ghost use Rattle.machine.specs.Run.{steps, columns, columnsOk, runOf};
-ghost use Rattle.bus.specs.Halting.{leftBy};
 
 // A refused making hands back the smallest machine.
 pub fn make(processors: usize, words: usize, lines: usize, entries: usize, memory: &[u32]) -> Made
@@ -95,6 +89,7 @@ fn refused(number: u8) -> Answered
     }
 }
 
+// A step that is not refused uses a word below 256, or none.
 pub fn step(m: Machine, op: u8, core: u8, word: u32, value: u32) -> Stepped
     ensures { λ r. ⌜ r ≡ stepOf m op core word value ⌝ }
 {
@@ -119,7 +114,8 @@ pub fn step(m: Machine, op: u8, core: u8, word: u32, value: u32) -> Stepped
     let mut lines = m.lines;
     let mut entries = m.entries;
     let mut flags = m.flags;
-    let answered = running::one_step(
+    let w = (word % 256) as u8;
+    let answered = steps::take_step(
         &mut memory,
         &mut lines,
         &mut entries,
@@ -127,7 +123,7 @@ pub fn step(m: Machine, op: u8, core: u8, word: u32, value: u32) -> Stepped
         d,
         op,
         p,
-        word,
+        w,
         value,
     );
     let stepped = Machine {
@@ -140,118 +136,5 @@ pub fn step(m: Machine, op: u8, core: u8, word: u32, value: u32) -> Stepped
     Stepped {
         told: answered,
         machine: stepped,
-    }
-}
-
-// The columns have one length, at most 65,536.
-fn columns_ok(
-    ops: &[u8],
-    cores: &[u8],
-    words: &[u32],
-    values: &[u32],
-    answers: &[u8],
-    results: &[u32],
-    read: &[u32],
-    rfo: &[u32],
-    write: &[u32],
-    t_read: &[u32],
-    t_rfo: &[u32],
-    busy: &[u32],
-) -> bool
-    ensures { λ r. ⌜ r ≡ columnsOk (steps (now (ops .entry)) (now (cores .entry)) (now (words .entry)) (now (values .entry))) (columns (now (answers .entry)) (now (results .entry)) (now (read .entry)) (now (rfo .entry)) (now (write .entry)) (now («t_read» .entry)) (now («t_rfo» .entry)) (now (busy .entry))) ⌝ }
-{
-    let n = ops.len();
-    let a = also(n <= 65536, cores.len(), n);
-    let b = also(a, words.len(), n);
-    let c = also(b, values.len(), n);
-    let d = also(c, answers.len(), n);
-    let e = also(d, results.len(), n);
-    let f = also(e, read.len(), n);
-    let g = also(f, rfo.len(), n);
-    let h = also(g, write.len(), n);
-    let i = also(h, t_read.len(), n);
-    let j = also(i, t_rfo.len(), n);
-    also(j, busy.len(), n)
-}
-
-pub fn run(
-    m: Machine,
-    ops: &[u8],
-    cores: &[u8],
-    words: &[u32],
-    values: &[u32],
-    answers: &mut [u8],
-    results: &mut [u32],
-    read: &mut [u32],
-    rfo: &mut [u32],
-    write: &mut [u32],
-    t_read: &mut [u32],
-    t_rfo: &mut [u32],
-    busy: &mut [u32],
-) -> Ran
-    ensures { λ r. ⌜ leftBy r (columns (now (answers .exit)) (now (results .exit)) (now (read .exit)) (now (rfo .exit)) (now (write .exit)) (now («t_read» .exit)) (now («t_rfo» .exit)) (now (busy .exit))) ≡ runOf m (steps (now (ops .entry)) (now (cores .entry)) (now (words .entry)) (now (values .entry))) (columns (now (answers .entry)) (now (results .entry)) (now (read .entry)) (now (rfo .entry)) (now (write .entry)) (now («t_read» .entry)) (now («t_rfo» .entry)) (now (busy .entry))) ⌝ }
-{
-    if !sound(m) {
-        return Ran {
-            taken: 0,
-            refusal: 9,
-            machine: m,
-        };
-    }
-    if !columns_ok(
-        ops,
-        cores,
-        words,
-        values,
-        answers,
-        results,
-        read,
-        rfo,
-        write,
-        t_read,
-        t_rfo,
-        busy,
-    ) {
-        return Ran {
-            taken: 0,
-            refusal: 10,
-            machine: m,
-        };
-    }
-    let d = m.dims;
-    let mut memory = m.memory;
-    let mut lines = m.lines;
-    let mut entries = m.entries;
-    let mut flags = m.flags;
-    let h = running::run_sound(
-        &mut memory,
-        &mut lines,
-        &mut entries,
-        &mut flags,
-        d,
-        ops,
-        cores,
-        words,
-        values,
-        answers,
-        results,
-        read,
-        rfo,
-        write,
-        t_read,
-        t_rfo,
-        busy,
-    );
-    let after = Machine {
-        dims: d,
-        memory: memory,
-        lines: lines,
-        entries: entries,
-        flags: flags,
-    };
-    Ran {
-        taken: h.taken,
-        refusal: h.refusal,
-        machine: after,
     }
 }

@@ -73,7 +73,7 @@ fn one_round(
     let n6 = lent_words(n, &t_rfo);
     let n7 = lent_words(n, &busy);
     let began = ticks();
-    let ran = bus::run(
+    let ran = runs::run(
         m,
         ops,
         cores,

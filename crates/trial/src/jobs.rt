@@ -100,7 +100,7 @@ fn run(head: &[u8; 176], m: Machine) {
     let n9 = words_lent(head, 9, &t_read);
     let n10 = words_lent(head, 10, &t_rfo);
     let n11 = words_lent(head, 11, &busy);
-    let ran = bus::run(
+    let ran = runs::run(
         m,
         &ops[..n0],
         &cores[..n1],

@@ -18,7 +18,10 @@ unfolding makeOf
 returns c = rw (← c .before .before .make-refusal .ensures, ne-eqb _ _ (c .before .if1 .taken), c .smallest-machine .ensures)
 
 fresh-machine-requires : tie.Need-fresh-machine-requires
-fresh-machine-requires c κs = let x = c .before .before .before .args in make-fit (dims (x .processors) (x .words) (x .lines) (x .entries)) (x .memory .now) (sym (c .before .make-refusal .ensures) ∙ c .if1 .left)
+fresh-machine-requires c κs =
+    let c1 = c .before .before .before in
+    let x = c1 .args in make-fit (dims (x .processors) (x .words) (x .lines) (x .entries)) (x .memory .now)
+    (sym (c .before .make-refusal .ensures) ∙ c .if1 .left)
 
 returns-2 : tie.Need-returns-2
 unfolding makeOf

@@ -18,7 +18,14 @@ returns c = rw (← c .before .sound .ensures, not-true (c .before .sound .resul
 
 returns-2 : tie.Need-returns-2
 unfolding settledOf
-returns-2 c = rw (← c .before .before .before .before .sound .ensures, not-false (c .before .before .before .before .sound .result) (c .before .before .before .if1 .left), le-ltb _ _ (c .if2 .taken))
+returns-2 c =
+    let c1 = c .before .before .before in
+    let c2 = c1 .before in
+    rw (
+      ← c2 .sound .ensures,
+      not-false (c2 .sound .result) (c1 .if1 .left),
+      le-ltb _ _ (c .if2 .taken),
+    )
 
 cast-w : tie.Need-cast-w
 cast-w c = search needs
@@ -28,7 +35,14 @@ settled-in-requires c κs = search needs
 
 returns-3 : tie.Need-returns-3
 unfolding settledOf
-returns-3 c = let f = sound-fit _ _ (sym (c .before .before .before .before .before .before .before .before .before .before .before .before .before .sound .ensures) ∙ not-false (c .before .before .before .before .before .before .before .before .before .before .before .before .before .sound .result) (c .before .before .before .before .before .before .before .before .before .before .before .before .if1 .left)) in let e : c .before .before .before .before .before .before .before .before .before .before .before .before .before .before .args .word % 256 ≡ c .before .before .before .before .before .before .before .before .before .before .before .before .before .before .args .word = omega (arith, f .words, c .before .before .before .before .before .before .before .before .before .if2 .left) in rw (← c .before .before .before .before .before .before .before .before .before .before .before .before .before .sound .ensures, not-false (c .before .before .before .before .before .before .before .before .before .before .before .before .before .sound .result) (c .before .before .before .before .before .before .before .before .before .before .before .before .if1 .left), lt-ltb _ _ (c .before .before .before .before .before .before .before .before .before .if2 .left), c .settled-in .ensures, e)
+returns-3 c =
+    let c1 = c .before .before .before .before .before .before .before .before .before in
+    let c2 = c1 .before .before .before in
+    let c3 = c2 .before in
+    let c4 = c3 .before in
+    let f = sound-fit _ _ (sym (c3 .sound .ensures) ∙ not-false (c3 .sound .result) (c2 .if1 .left)) in let e : c4 .args .word % 256 ≡
+    c4 .args .word = omega (arith, f .words, c1 .if2 .left) in rw
+    (← c3 .sound .ensures, not-false (c3 .sound .result) (c2 .if1 .left), lt-ltb _ _ (c1 .if2 .left), c .settled-in .ensures, e)
 
 pub settled-spec : {M : Type 1} → statement M
 settled-spec =

@@ -1,8 +1,7 @@
-use borrow.Author.Tests.{eq-eqb, ne-eqb}
 use mathlib.Core.Path.{_∙_, sym}
-use borrow.Author.Tests.{not-true, not-false}
+use borrow.Author.Tests.{eq-eqb, ne-eqb, not-true, not-false}
 use Rattle.machine.specs.Step.{stepSound, stepOf}
-use Rattle.bus.proofs.Words.{sound-fit}
+use Rattle.bus.proofs.Words.{sound-fit, low-word}
 use borrow.Author.Needs.{needs}
 use Rattle.bus.proofs.step.Statement.{statement}
 use Rattle.bus.proofs.step.Tie as tie
@@ -25,14 +24,37 @@ refused-requires-2 c κs = search needs
 
 returns-2 : tie.Need-returns-2
 unfolding stepOf stepSound
-returns-2 c = rw (← c .before .before .before .before .before .sound .ensures, not-false (c .before .before .before .before .before .sound .result) (c .before .before .before .before .if1 .left), ← c .before .before .step-refusal .ensures, ne-eqb _ _ (c .before .if2 .taken), c .refused2 .ensures)
+returns-2 c =
+    let c1 = c .before .before .before .before in
+    let c2 = c1 .before in
+    rw (
+      ← c2 .sound .ensures,
+      not-false (c2 .sound .result) (c1 .if1 .left),
+      ← c .before .before .step-refusal .ensures,
+      ne-eqb _ _ (c .before .if2 .taken),
+      c .refused2 .ensures,
+    )
 
-one-step-requires : tie.Need-one-step-requires
-one-step-requires c κs = (sym (c .before .before .before .before .before .before .before .before .before .step-refusal .ensures) ∙ c .before .before .before .before .before .before .before .before .if2 .left, sound-fit _ _ (sym (c .before .before .before .before .before .before .before .before .before .before .before .before .sound .ensures) ∙ not-false (c .before .before .before .before .before .before .before .before .before .before .before .before .sound .result) (c .before .before .before .before .before .before .before .before .before .before .before .if1 .left)) .words)
+cast-w : tie.Need-cast-w
+cast-w c = search needs
+
+take-step-requires : tie.Need-take-step-requires
+take-step-requires c κs = search needs
 
 returns-3 : tie.Need-returns-3
 unfolding stepOf stepSound
-returns-3 c = rw (← c .before .before .before .before .before .before .before .before .before .before .before .before .before .sound .ensures, not-false (c .before .before .before .before .before .before .before .before .before .before .before .before .before .sound .result) (c .before .before .before .before .before .before .before .before .before .before .before .before .if1 .left), ← c .before .before .before .before .before .before .before .before .before .before .step-refusal .ensures, eq-eqb _ _ (c .before .before .before .before .before .before .before .before .before .if2 .left), ← c .one-step .ensures)
+returns-3 c =
+    let c1 = c .before .before .before .before .before .before .before .before .before in
+    let c2 = c1 .before in
+    let c3 = c2 .before .before in
+    let c4 = c3 .before in
+    rw (
+      ← c4 .sound .ensures,
+      not-false (c4 .sound .result) (c3 .if1 .left),
+      ← c2 .step-refusal .ensures,
+      eq-eqb _ _ (c1 .if2 .left),
+      ← (c .take-step .ensures ∙ low-word _ _ _ _ _ _ (sym (c2 .step-refusal .ensures) ∙ c1 .if2 .left) (sound-fit _ _ (sym (c4 .sound .ensures) ∙ not-false (c4 .sound .result) (c3 .if1 .left)) .words)),
+    )
 
 pub step-spec : {M : Type 1} → statement M
 step-spec =
@@ -44,5 +66,6 @@ step-spec =
     step-refusal-requires
     refused-requires-2
     returns-2
-    one-step-requires
+    cast-w
+    take-step-requires
     returns-3)

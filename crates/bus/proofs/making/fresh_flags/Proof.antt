@@ -34,10 +34,13 @@ loop-less : tie.Need-loop-less Inv-loop μ-loop
 loop-less c = search needs
 
 loop-again : tie.Need-loop-again Inv-loop μ-loop
-loop-again c = (search needs, rw (c .before .loop .inv .1) (set-past (replicate 8 0) (padded 8 (take (c .before .loop .p) (replicate (c .before .before .args .processors) 1))) (c .before .loop .p) 1 ∙ ap (λ (l : List ℕ). replicate 8 0 ++ l) (ap (λ (z : ℕ). set (padded 8 (take (c .before .loop .p) (replicate (c .before .before .args .processors) 1))) (c .before .loop .p) z) (sym (getD-replicate {A = ℕ} (c .before .before .args .processors) (c .before .loop .p) 1 0 (search needs))) ∙ (pad-turn 8 (c .before .loop .p) (replicate (c .before .before .args .processors) 1) (omega (arith, length-replicate {A = ℕ} (c .before .before .args .processors) 1, c .loop-test)) (omega (arith, length-replicate {A = ℕ} (c .before .before .args .processors) 1, c .before .before .pre))))))
+loop-again c =
+    (search needs, rw (c .before .loop .inv .1) (set-past (replicate 8 0) (padded 8 (take (c .before .loop .p) (replicate (c .before .before .args .processors) 1))) (c .before .loop .p) 1 ∙ ap (λ (l : List ℕ). replicate 8 0 ++ l) (ap (λ (z : ℕ). set (padded 8 (take (c .before .loop .p) (replicate (c .before .before .args .processors) 1))) (c .before .loop .p) z) (sym (getD-replicate {A = ℕ} (c .before .before .args .processors) (c .before .loop .p) 1 0 (search needs))) ∙ (pad-turn 8 (c .before .loop .p) (replicate (c .before .before .args .processors) 1) (omega (arith, length-replicate {A = ℕ} (c .before .before .args .processors) 1, c .loop-test)) (omega (arith, length-replicate {A = ℕ} (c .before .before .args .processors) 1, c .before .before .pre))))))
 
 returns : tie.Need-returns Inv-loop μ-loop
-returns c = c .before .loop .inv .1 ∙ ap (λ (l : List ℕ). replicate 8 0 ++ padded 8 l) (take-all (c .before .loop .p) (replicate (c .before .before .args .processors) 1) (omega (arith, length-replicate {A = ℕ} (c .before .before .args .processors) 1, c .loop-test)))
+returns c =
+    c .before .loop .inv .1 ∙ ap (λ (l : List ℕ). replicate 8 0 ++ padded 8 l)
+    (take-all (c .before .loop .p) (replicate (c .before .before .args .processors) 1) (omega (arith, length-replicate {A = ℕ} (c .before .before .args .processors) 1, c .loop-test)))
 
 pub fresh-flags-spec : {M : Type 1} → statement M
 fresh-flags-spec =

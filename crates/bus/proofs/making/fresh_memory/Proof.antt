@@ -37,7 +37,9 @@ loop-less : tie.Need-loop-less Inv-loop μ-loop
 loop-less c = search needs
 
 loop-again : tie.Need-loop-again Inv-loop μ-loop
-loop-again c = (search needs, rw (c .before .before .loop .inv .1) (pad-turn 256 (c .before .before .loop .i) (c .before .before .before .args .memory .now) (search needs) (search needs)))
+loop-again c =
+    let c1 = c .before .before .before in
+    (search needs, rw (c .before .before .loop .inv .1) (pad-turn 256 (c .before .before .loop .i) (c1 .args .memory .now) (search needs) (search needs)))
 
 returns : tie.Need-returns Inv-loop μ-loop
 returns c = c .before .loop .inv .1 ∙ ap (padded 256) (take-all (c .before .loop .i) (c .before .before .args .memory .now) (search needs))

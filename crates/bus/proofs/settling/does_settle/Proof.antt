@@ -30,7 +30,14 @@ settling-entry-requires c κs = search needs
 
 returns-2 : tie.Need-returns-2
 unfolding settles
-returns-2 c = rw (← (rw (c .before .before .before .before .unpack .ensures) at (c .before .before .before .is-dirty .ensures)), c .before .before .if1 .left, ← c .before .settling-entry .ensures)
+returns-2 c =
+    let c1 = c .before .before .before in
+    let c2 = c1 .before in
+    rw (
+      ← (rw (c2 .unpack .ensures) at (c1 .is-dirty .ensures)),
+      c .before .before .if1 .left,
+      ← c .before .settling-entry .ensures,
+    )
 
 pub does-settle-spec : {M : Type 1} → statement M
 does-settle-spec =

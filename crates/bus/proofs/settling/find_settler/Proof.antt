@@ -28,7 +28,9 @@ loop-less : tie.Need-loop-less Inv-loop μ-loop
 loop-less c = search needs
 
 loop-again : tie.Need-loop-again Inv-loop μ-loop
-loop-again c = (search needs, sym (first-miss _ _ _ (search needs) (sym (c .before .does-settle .ensures) ∙ c .if2 .left)) ∙ c .before .before .before .loop .inv .1)
+loop-again c =
+    let c1 = c .before .before .before in
+    (search needs, sym (first-miss _ _ _ (search needs) (sym (c .before .does-settle .ensures) ∙ c .if2 .left)) ∙ c1 .loop .inv .1)
 
 returns : tie.Need-returns Inv-loop μ-loop
 returns c = (omega arith) ∙ sym (first-end _ _ _ (search needs)) ∙ c .before .loop .inv .1

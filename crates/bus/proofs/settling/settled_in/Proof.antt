@@ -18,7 +18,14 @@ element-copy-out-result c = search needs
 
 returns : tie.Need-returns
 unfolding settledIn
-returns c = rw (← c .before .before .before .before .home .ensures, ← c .before .before .before .find-settler .ensures, le-ltb _ _ (c .before .if1 .taken))
+returns c =
+    let c1 = c .before .before .before in
+    let c2 = c1 .before in
+    rw (
+      ← c2 .home .ensures,
+      ← c1 .find-settler .ensures,
+      le-ltb _ _ (c .before .if1 .taken),
+    )
 
 mul-j : tie.Need-mul-j
 mul-j c = search needs
@@ -40,7 +47,18 @@ is-dirty-requires c κs = search needs
 
 returns-2 : tie.Need-returns-2
 unfolding settledIn
-returns-2 c = rw (← c .before .before .before .before .before .before .before .home .ensures, ← c .before .before .before .before .before .before .find-settler .ensures, lt-ltb _ _ (c .before .before .before .before .if1 .left), ← (rw (c .before .before .unpack .ensures) at (c .before .is-dirty .ensures)), c .if2 .taken, c .before .before .unpack .ensures)
+returns-2 c =
+    let c1 = c .before .before .before .before in
+    let c2 = c1 .before .before in
+    let c3 = c2 .before in
+    rw (
+      ← c3 .home .ensures,
+      ← c2 .find-settler .ensures,
+      lt-ltb _ _ (c1 .if1 .left),
+      ← (rw (c .before .before .unpack .ensures) at (c .before .is-dirty .ensures)),
+      c .if2 .taken,
+      c .before .before .unpack .ensures,
+    )
 
 settling-entry-requires : tie.Need-settling-entry-requires
 settling-entry-requires c κs = search needs
@@ -62,7 +80,22 @@ unpack-requires-2 c κs = search needs
 
 returns-3 : tie.Need-returns-3
 unfolding settledIn
-returns-3 c = rw (← c .before .before .before .before .before .before .before .before .before .before .home .ensures, ← c .before .before .before .before .before .before .before .before .before .find-settler .ensures, lt-ltb _ _ (c .before .before .before .before .before .before .before .if1 .left), ← (rw (c .before .before .before .before .before .unpack .ensures) at (c .before .before .before .before .is-dirty .ensures)), c .before .before .before .if2 .left, ← c .before .before .settling-entry .ensures, c .unpack2 .ensures)
+returns-3 c =
+    let c1 = c .before .before .before in
+    let c2 = c1 .before in
+    let c3 = c2 .before in
+    let c4 = c3 .before .before in
+    let c5 = c4 .before .before in
+    let c6 = c5 .before in
+    rw (
+      ← c6 .home .ensures,
+      ← c5 .find-settler .ensures,
+      lt-ltb _ _ (c4 .if1 .left),
+      ← (rw (c3 .unpack .ensures) at (c2 .is-dirty .ensures)),
+      c1 .if2 .left,
+      ← c .before .before .settling-entry .ensures,
+      c .unpack2 .ensures,
+    )
 
 pub settled-in-spec : {M : Type 1} → statement M
 settled-in-spec =

@@ -43,13 +43,19 @@ loop-less : tie.Need-loop-less Inv-loop μ-loop
 loop-less c = search needs
 
 loop-again : tie.Need-loop-again Inv-loop μ-loop
-loop-again c = (search needs, sym (first-miss _ _ _ (search needs) (sym (rw (c .before .before .unpack .ensures) at (c .before .is-settling .ensures)) ∙ c .if2 .left)) ∙ c .before .before .before .before .before .loop .inv .1)
+loop-again c =
+    let c1 = c .before .before .before .before .before in
+    (search needs, sym (first-miss _ _ _ (search needs) (sym (rw (c .before .before .unpack .ensures) at (c .before .is-settling .ensures)) ∙ c .if2 .left)) ∙ c1 .loop .inv .1)
 
 returns : tie.Need-returns Inv-loop μ-loop
 returns c = (omega arith) ∙ sym (first-end _ _ _ (search needs)) ∙ c .before .loop .inv .1
 
 returns-2 : tie.Need-returns-2 Inv-loop μ-loop
-returns-2 c = sym (first-hit _ _ _ (search needs) (sym (rw (c .before .before .unpack .ensures) at (c .before .is-settling .ensures)) ∙ c .if2 .taken)) ∙ c .before .before .before .before .before .loop .inv .1
+returns-2 c =
+    let c1 = c .before .before .before .before .before in
+    sym
+    (first-hit _ _ _ (search needs) (sym (rw (c .before .before .unpack .ensures) at (c .before .is-settling .ensures)) ∙ c .if2 .taken)) ∙
+    c1 .loop .inv .1
 
 pub settling-entry-spec : {M : Type 1} → statement M
 settling-entry-spec =

@@ -2,8 +2,8 @@ use native.Mathlib.Omega.{arith}
 use mathlib.Core.Path.{sym}
 use lib.Seq.{set-out}
 use borrow.Author.Needs.{needs}
-use Rattle.bus.proofs.columns.put_number.Statement.{statement}
-use Rattle.bus.proofs.columns.put_number.Tie as tie
+use Rattle.runs.proofs.columns.put_number.Statement.{statement}
+use Rattle.runs.proofs.columns.put_number.Tie as tie
 
 mul-column : tie.Need-mul-column
 mul-column c = search needs

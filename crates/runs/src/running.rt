@@ -14,7 +14,7 @@ ghost use Rattle.machine.specs.State.{caches, outcome};
 ghost use Rattle.machine.specs.Refusals.{accepted};
 ghost use Rattle.machine.specs.Step.{stepRefusal, takeStep};
 ghost use Rattle.machine.specs.Run.{steps, columns, carried, runSound};
-ghost use Rattle.bus.specs.Halting.{halted};
+ghost use Rattle.runs.specs.Halting.{halted};
 
 // refusal is 0 where every step was taken.
 pub struct Halt {

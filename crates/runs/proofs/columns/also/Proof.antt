@@ -1,5 +1,5 @@
-use Rattle.bus.proofs.columns.also.Statement.{statement}
-use Rattle.bus.proofs.columns.also.Tie as tie
+use Rattle.runs.proofs.columns.also.Statement.{statement}
+use Rattle.runs.proofs.columns.also.Tie as tie
 
 returns : tie.Need-returns
 returns c = rw (c .if1 .taken)

@@ -1,7 +1,7 @@
 use Rattle.machine.specs.Run.{columnsOk}
 use borrow.Author.Needs.{needs}
-use Rattle.bus.proofs.columns_ok.Statement.{statement}
-use Rattle.bus.proofs.columns_ok.Tie as tie
+use Rattle.runs.proofs.columns_ok.Statement.{statement}
+use Rattle.runs.proofs.columns_ok.Tie as tie
 
 also-requires : tie.Need-also-requires
 also-requires c κs = search needs
@@ -38,7 +38,28 @@ also-requires-11 c κs = search needs
 
 returns : tie.Need-returns
 unfolding columnsOk
-returns c = rw (c .also11 .ensures, c .before .also10 .ensures, c .before .before .also9 .ensures, c .before .before .before .also8 .ensures, c .before .before .before .before .also7 .ensures, c .before .before .before .before .before .also6 .ensures, c .before .before .before .before .before .before .also5 .ensures, c .before .before .before .before .before .before .before .also4 .ensures, c .before .before .before .before .before .before .before .before .also3 .ensures, c .before .before .before .before .before .before .before .before .before .also2 .ensures, c .before .before .before .before .before .before .before .before .before .before .also .ensures)
+returns c =
+    let c1 = c .before .before .before in
+    let c2 = c1 .before in
+    let c3 = c2 .before in
+    let c4 = c3 .before in
+    let c5 = c4 .before in
+    let c6 = c5 .before in
+    let c7 = c6 .before in
+    let c8 = c7 .before in
+    rw (
+      c .also11 .ensures,
+      c .before .also10 .ensures,
+      c .before .before .also9 .ensures,
+      c1 .also8 .ensures,
+      c2 .also7 .ensures,
+      c3 .also6 .ensures,
+      c4 .also5 .ensures,
+      c5 .also4 .ensures,
+      c6 .also3 .ensures,
+      c7 .also2 .ensures,
+      c8 .also .ensures,
+    )
 
 pub columns-ok-spec : {M : Type 1} → statement M
 columns-ok-spec =

@@ -1,6 +1,6 @@
 use borrow.Author.Needs.{needs}
-use Rattle.bus.proofs.columns.write_answer.Statement.{statement}
-use Rattle.bus.proofs.columns.write_answer.Tie as tie
+use Rattle.runs.proofs.columns.write_answer.Statement.{statement}
+use Rattle.runs.proofs.columns.write_answer.Tie as tie
 
 number-requires : tie.Need-number-requires
 number-requires c κs = search needs
@@ -57,7 +57,28 @@ same-length-8 : tie.Need-same-length-8
 same-length-8 c = search needs
 
 returns : tie.Need-returns
-returns c = rw (c .before .before .before .before .before .before .before .before .before .before .before .before .before .before .before .before .before .before .before .before .before .before .before .before .before .before .before .before .before .before .before .put-byte .ensures, c .before .before .before .before .before .before .before .before .before .before .before .before .before .before .before .before .before .before .before .before .before .before .before .before .before .before .put-number .ensures, c .before .before .before .before .before .before .before .before .before .before .before .before .before .before .before .before .before .before .before .before .before .before .put-number2 .ensures, c .before .before .before .before .before .before .before .before .before .before .before .before .before .before .before .before .before .before .put-number3 .ensures, c .before .before .before .before .before .before .before .before .before .before .before .before .before .before .put-number4 .ensures, c .before .before .before .before .before .before .before .before .before .before .put-number5 .ensures, c .before .before .before .before .before .before .put-number6 .ensures, c .before .before .put-number7 .ensures, c .before .before .before .before .before .before .before .before .before .before .before .before .before .before .before .before .before .before .before .before .before .before .before .before .before .before .before .before .before .before .before .before .number .ensures, c .before .before .before .before .before .before .before .before .before .before .before .before .before .before .before .before .before .before .before .before .before .before .before .before .before .before .before .value .ensures)
+returns c =
+    let c1 = c .before .before .before .before .before .before in
+    let c2 = c1 .before .before .before .before in
+    let c3 = c2 .before .before .before .before in
+    let c4 = c3 .before .before .before .before in
+    let c5 = c4 .before .before .before .before in
+    let c6 = c5 .before .before .before .before in
+    let c7 = c6 .before in
+    let c8 = c7 .before .before .before .before in
+    let c9 = c8 .before in
+    rw (
+      c8 .put-byte .ensures,
+      c6 .put-number .ensures,
+      c5 .put-number2 .ensures,
+      c4 .put-number3 .ensures,
+      c3 .put-number4 .ensures,
+      c2 .put-number5 .ensures,
+      c1 .put-number6 .ensures,
+      c .before .before .put-number7 .ensures,
+      c9 .number .ensures,
+      c7 .value .ensures,
+    )
 
 pub write-answer-spec : {M : Type 1} → statement M
 write-answer-spec =

@@ -2,11 +2,8 @@ use native.Mathlib.Omega.{arith}
 use mathlib.Core.Path.{sym}
 use lib.ListN.{List·getD-eq-default}
 use borrow.Author.Needs.{needs}
-use Rattle.bus.proofs.columns.number_at.Statement.{statement}
-use Rattle.bus.proofs.columns.number_at.Tie as tie
-
-mul-result : tie.Need-mul-result
-mul-result c = search needs
+use Rattle.runs.proofs.columns.byte_at.Statement.{statement}
+use Rattle.runs.proofs.columns.byte_at.Tie as tie
 
 shared-slice-read-result : tie.Need-shared-slice-read-result
 shared-slice-read-result c = search needs
@@ -17,5 +14,5 @@ returns c = search needs
 returns-2 : tie.Need-returns-2
 returns-2 c = sym (List·getD-eq-default (c .before .args .column .now) 0 {n = c .before .args .i} (omega arith))
 
-pub number-at-spec : {M : Type 1} → statement M
-number-at-spec = tie.close (tie.spec mul-result shared-slice-read-result returns returns-2)
+pub byte-at-spec : {M : Type 1} → statement M
+byte-at-spec = tie.close (tie.spec shared-slice-read-result returns returns-2)

@@ -3,7 +3,7 @@ use Rattle.machine.specs.declared.Dims.{Dims}
 use Rattle.machine.specs.declared.Ran.{Ran}
 use Rattle.machine.specs.State.{machineOf}
 use Rattle.machine.specs.Run.{Columns, Carried, Left, left}
-use Rattle.bus.specs.declared.running.Halt.{Halt}
+use Rattle.runs.specs.declared.running.Halt.{Halt}
 
 abbrev pub leftBy : Ran → Columns → Left
 leftBy r c = record { ran = r; columns = c }

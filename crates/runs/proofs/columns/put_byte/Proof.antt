@@ -2,8 +2,8 @@ use native.Mathlib.Omega.{arith}
 use mathlib.Core.Path.{sym}
 use lib.Seq.{set-out}
 use borrow.Author.Needs.{needs}
-use Rattle.bus.proofs.columns.put_byte.Statement.{statement}
-use Rattle.bus.proofs.columns.put_byte.Tie as tie
+use Rattle.runs.proofs.columns.put_byte.Statement.{statement}
+use Rattle.runs.proofs.columns.put_byte.Tie as tie
 
 slice-write-column : tie.Need-slice-write-column
 slice-write-column c = search needs

@@ -7,10 +7,9 @@ use Rattle.laws.specs.Until.{untilRange, until-end, until-stop, until-turn}
 use Rattle.entry.specs.declared.answer.Answered.{Answered}
 use Rattle.machine.specs.declared.Dims.{Dims}
 use Rattle.machine.specs.State.{Caches, Outcome, outcome}
-use Rattle.machine.specs.Refusals.{accepted}
 use Rattle.machine.specs.Step.{stepRefusal, takeStep}
 use Rattle.machine.specs.Run.{Steps, Columns, written, Carried, carried, stopsAt, turn, stopped}
-use Rattle.bus.specs.Halting.{halted}
+use Rattle.runs.specs.Halting.{halted}
 
 -- a column keeps its length
 pub record SameLengths (c k : Columns) : Type 0 where

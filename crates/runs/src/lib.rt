@@ -1,0 +1,124 @@
+// The published run: a trace in columns, from a machine by value. Inside, nothing that holds an array goes by value.
+
+mod columns;
+mod running;
+
+use crate::columns::also;
+use machine::Machine;
+use machine::Ran;
+ghost use mathlib.Core.Path.{_≡_};
+ghost use Rattle.machine.specs.Run.{steps, columns, columnsOk, runOf};
+ghost use Rattle.runs.specs.Halting.{leftBy};
+
+// The columns have one length, at most 65,536.
+fn columns_ok(
+    ops: &[u8],
+    cores: &[u8],
+    words: &[u32],
+    values: &[u32],
+    answers: &[u8],
+    results: &[u32],
+    read: &[u32],
+    rfo: &[u32],
+    write: &[u32],
+    t_read: &[u32],
+    t_rfo: &[u32],
+    busy: &[u32],
+) -> bool
+    ensures { λ r. ⌜ r ≡ columnsOk (steps (now (ops .entry)) (now (cores .entry)) (now (words .entry)) (now (values .entry))) (columns (now (answers .entry)) (now (results .entry)) (now (read .entry)) (now (rfo .entry)) (now (write .entry)) (now («t_read» .entry)) (now («t_rfo» .entry)) (now (busy .entry))) ⌝ }
+{
+    let n = ops.len();
+    let a = also(n <= 65536, cores.len(), n);
+    let b = also(a, words.len(), n);
+    let c = also(b, values.len(), n);
+    let d = also(c, answers.len(), n);
+    let e = also(d, results.len(), n);
+    let f = also(e, read.len(), n);
+    let g = also(f, rfo.len(), n);
+    let h = also(g, write.len(), n);
+    let i = also(h, t_read.len(), n);
+    let j = also(i, t_rfo.len(), n);
+    also(j, busy.len(), n)
+}
+
+pub fn run(
+    m: Machine,
+    ops: &[u8],
+    cores: &[u8],
+    words: &[u32],
+    values: &[u32],
+    answers: &mut [u8],
+    results: &mut [u32],
+    read: &mut [u32],
+    rfo: &mut [u32],
+    write: &mut [u32],
+    t_read: &mut [u32],
+    t_rfo: &mut [u32],
+    busy: &mut [u32],
+) -> Ran
+    ensures { λ r. ⌜ leftBy r (columns (now (answers .exit)) (now (results .exit)) (now (read .exit)) (now (rfo .exit)) (now (write .exit)) (now («t_read» .exit)) (now («t_rfo» .exit)) (now (busy .exit))) ≡ runOf m (steps (now (ops .entry)) (now (cores .entry)) (now (words .entry)) (now (values .entry))) (columns (now (answers .entry)) (now (results .entry)) (now (read .entry)) (now (rfo .entry)) (now (write .entry)) (now («t_read» .entry)) (now («t_rfo» .entry)) (now (busy .entry))) ⌝ }
+{
+    if !bus::sound(m) {
+        return Ran {
+            taken: 0,
+            refusal: 9,
+            machine: m,
+        };
+    }
+    if !columns_ok(
+        ops,
+        cores,
+        words,
+        values,
+        answers,
+        results,
+        read,
+        rfo,
+        write,
+        t_read,
+        t_rfo,
+        busy,
+    ) {
+        return Ran {
+            taken: 0,
+            refusal: 10,
+            machine: m,
+        };
+    }
+    let d = m.dims;
+    let mut memory = m.memory;
+    let mut lines = m.lines;
+    let mut entries = m.entries;
+    let mut flags = m.flags;
+    let h = running::run_sound(
+        &mut memory,
+        &mut lines,
+        &mut entries,
+        &mut flags,
+        d,
+        ops,
+        cores,
+        words,
+        values,
+        answers,
+        results,
+        read,
+        rfo,
+        write,
+        t_read,
+        t_rfo,
+        busy,
+    );
+    let after = Machine {
+        dims: d,
+        memory: memory,
+        lines: lines,
+        entries: entries,
+        flags: flags,
+    };
+    Ran {
+        taken: h.taken,
+        refusal: h.refusal,
+        machine: after,
+    }
+}
