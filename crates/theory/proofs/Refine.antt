@@ -1,0 +1,415 @@
+-- Each of document 01's steps is a run of silent moves and what it shows.
+use mathlib.Core.Path.{_≡_, refl, sym, _∙_, ap}
+use mathlib.Core.Logic.{_≢_, _⊎_, inl, inr}
+use mathlib.Core.Bool.{Bool, true, false, true≢false, false≢true}
+use mathlib.Core.List.{List, [], _∷_}
+use Prim.Native.Nat.{ℕ, zero, suc, _≤_, _<_}
+use native.Mathlib.Decide.{ℕ-discrete, decLt}
+use native.Mathlib.Omega.{arith}
+use Rattle.theory.proofs.View.{LineState, valid, reserved, dirty, Back, bare, backup, Copy, none, regular, normal, tentative, above, isDirty, wrote, dried, isTentative, exclusive, rolledBack, committed, View}
+use Rattle.theory.proofs.OneWord.{Move, Low, Alone, drop-reg, drop-norm, drop-back, lower-reg, lower-norm, begin-kept, begin-bare, fill-reg, fill-tent, fill-kept, own-reg, own-tent, own-kept, upgrade, not-up}
+use Rattle.theory.specs.Event.{Event, load, store, tread, twrite, commit, drop}
+use Rattle.theory.proofs.Moves.{Live, At, OnlyProcessor, same, Same, Silent, still, move, rollback, wake, sees, Shown, loads, stores, writes, treads, twrites, commits, drops, Run, done, quietly, showing, run-then, run-one}
+use Rattle.theory.proofs.Agree.{Agree, rolledBack-tentative}
+use Rattle.theory.proofs.Bus
+
+-- p's own side of a phase: its copy of w, its flags
+pub record Kept (p w : ℕ) (S S′ : View) : Type 0 where
+  pub copy-kept : S′ .copy w p ≡ S .copy w p
+  pub active-kept : S′ .active p ≡ S .active p
+  pub status-kept : S′ .status p ≡ S .status p
+
+-- a phase that is silent, keeps p's side, and touches no other processor past n
+pub record Phase (n p w : ℕ) (S S′ : View) : Type 0 where
+  pub runs : Run S [] S′
+  pub keeps : Kept p w S S′
+  pub far : (q : ℕ) → n ≤ q → q ≢ p → S′ .copy w q ≡ S .copy w q
+
+pub at-still : {S S′ : View} (p w : ℕ) → At p w S S′ → S′ .copy w p ≡ S .copy w p → S′ .memory w ≡ S .memory w → Same S S′
+at-still {S} {S′} p w at e m = record {
+  memory-same = λ u. elim (ℕ-discrete u w) [ yes i ↦ rw i m | no n ↦ at .memory-else u n ];
+  copy-same = λ u q. cs u q (ℕ-discrete u w) (ℕ-discrete q p);
+  active-same = at .active-same;
+  status-same = at .status-same;
+}
+  where
+    cs : (u q : ℕ) → Dec (u ≡ w) → Dec (q ≡ p) → S′ .copy u q ≡ S .copy u q
+    cs u q (yes i) (yes j) = rw (i, j) e
+    cs u q (yes i) (no n) = rw i (at .proc-else q n)
+    cs u q (no n) d = at .word-else u n q
+
+-- one processor answers a request
+snoop-silent : {S S′ : View} (k : Bus.Kind) (p w q : ℕ) → Bus.Snooped (Bus.snoops k) Bus.supplied p w q S S′
+    → (q ≢ p → Bus.refuses k (S .copy w q) ≡ false) → Silent S S′
+snoop-silent k p w q (Bus.own e s) h = still s
+snoop-silent {S} {S′} k p w q (Bus.other n at e m) h = go k (S .copy w q) refl (h n) e m
+  where
+    go : (k : Bus.Kind) (c : Copy) → S .copy w q ≡ c → Bus.refuses k c ≡ false → S′ .copy w q ≡ Bus.snoops k c → S′ .memory w ≡ Bus.supplied c (S .memory w) → Silent S S′
+    go Bus.reading none i r e m = still (at-still q w at (e ∙ sym i) m)
+    go Bus.reading (regular s d) i r e m = move q w at refl m i e lower-reg
+    go Bus.reading (normal s d) i r e m = move q w at refl m i e lower-norm
+    go Bus.reading (tentative valid d b t) i r e m = still (at-still q w at (e ∙ sym i) m)
+    go Bus.reading (tentative reserved d b t) i r e m = absurd (true≢false r)
+    go Bus.reading (tentative dirty d b t) i r e m = absurd (true≢false r)
+    go Bus.owning none i r e m = still (at-still q w at (e ∙ sym i) m)
+    go Bus.owning (regular s d) i r e m = move q w at refl m i e drop-reg
+    go Bus.owning (normal s d) i r e m = move q w at refl m i e drop-norm
+    go Bus.owning (tentative s d b t) i r e m = absurd (true≢false r)
+
+module _ {f : Copy → Copy} {g : Copy → ℕ → ℕ} {p w q : ℕ} {S S′ : View} where
+  snoop-else : Bus.Snooped f g p w q S S′ → (r : ℕ) → r ≢ q → S′ .copy w r ≡ S .copy w r
+  snoop-else (Bus.own e s) r n = s .copy-same w r
+  snoop-else (Bus.other n at e m) r n′ = at .proc-else r n′
+
+  snoop-here : Bus.Snooped f g p w q S S′ → q ≢ p → S′ .copy w q ≡ f (S .copy w q)
+  snoop-here (Bus.own e s) n = absurd (n e)
+  snoop-here (Bus.other n at e m) n′ = e
+
+  snoop-keeps : Bus.Snooped f g p w q S S′ → Kept p w S S′
+  snoop-keeps (Bus.own e s) = record { copy-kept = s .copy-same w p; active-kept = s .active-same p; status-kept = s .status-same p }
+  snoop-keeps (Bus.other n at e m) = record { copy-kept = at .proc-else p (λ i. n (sym i)); active-kept = at .active-same p; status-kept = at .status-same p }
+
+kept-refl : {p w : ℕ} {S : View} → Kept p w S S
+kept-refl = record { copy-kept = refl; active-kept = refl; status-kept = refl }
+
+kept-trans : {p w : ℕ} {S S₁ S₂ : View} → Kept p w S S₁ → Kept p w S₁ S₂ → Kept p w S S₂
+kept-trans a b = record { copy-kept = b .copy-kept ∙ a .copy-kept; active-kept = b .active-kept ∙ a .active-kept; status-kept = b .status-kept ∙ a .status-kept }
+
+-- every processor below n answers
+pub record Asked (k : Bus.Kind) (n p w : ℕ) (S S′ : View) : Type 0 where
+  pub phase : Phase n p w S S′
+  pub near : (q : ℕ) → q < n → q ≢ p → S′ .copy w q ≡ Bus.snoops k (S .copy w q)
+
+pub asked : {S S′ : View} (k : Bus.Kind) (n p w : ℕ) → ((q : ℕ) → q ≢ p → Bus.refuses k (S .copy w q) ≡ false)
+    → Bus.Each (Bus.Snooped (Bus.snoops k) Bus.supplied p w) n S S′ → Asked k n p w S S′
+asked k n p w h Bus.start = record { phase = record { runs = done; keeps = kept-refl; far = λ q l i. refl }; near = λ q l i. absurd (omega arith) }
+asked {S} {S′} k n p w h (Bus.and-then {n = n₁} {S₁ = S₁} c r) = snoc (asked k n₁ p w h c)
+  where
+    snoc : Asked k n₁ p w S S₁ → Asked k (suc n₁) p w S S′
+    snoc a = record {
+      phase = record {
+        runs = run-then (a .phase .runs) (run-one (snoop-silent k p w n₁ r (λ i. rw (a .phase .far n₁ (omega arith) i) (h n₁ i))));
+        keeps = kept-trans (a .phase .keeps) (snoop-keeps r);
+        far = λ q l i. snoop-else r q (λ j. omega arith) ∙ a .phase .far q (omega arith) i;
+      };
+      near = λ q l i. elim (ℕ-discrete q n₁) [
+        | yes j ↦ rw j (snoop-here r (rw j at i) ∙ ap (Bus.snoops k) (a .phase .far n₁ (omega arith) (rw j at i)))
+        | no j ↦ snoop-else r q j ∙ a .near q (omega arith) i
+      ];
+    }
+
+-- what a request gives: for T_READ and READ nobody else's copy is exclusive, for the others nobody else has one
+abbrev pub Gives : Bus.Kind → (ℕ → Copy) → ℕ → Type 0
+Gives Bus.reading c p = Low c p
+Gives Bus.owning c p = Alone c p
+
+pub record Served (k : Bus.Kind) (n p w : ℕ) (S S′ : View) : Type 0 where
+  pub phase : Phase n p w S S′
+  pub gives : Gives k (S′ .copy w) p
+
+excl-shared : (c : Copy) → exclusive (Bus.shared c) ≡ false
+excl-shared none = refl
+excl-shared (regular s d) = refl
+excl-shared (normal s d) = refl
+excl-shared (tentative s d b t) = refl
+
+taken-none : (c : Copy) → Bus.taken c ≡ none
+taken-none none = refl
+taken-none (regular s d) = refl
+taken-none (normal s d) = refl
+taken-none (tentative s d b t) = refl
+
+-- no processor but p, from n on, has the word
+abbrev pub Far : ℕ → ℕ → ℕ → View → Type 0
+Far n p w S = (q : ℕ) → n ≤ q → q ≢ p → S .copy w q ≡ none
+
+far-after : {S S′ : View} {n p w : ℕ} → Far n p w S → Phase n p w S S′ → Far n p w S′
+far-after f ph q l i = ph .far q l i ∙ f q l i
+
+served : {S S′ : View} (k : Bus.Kind) (n p w : ℕ) → Far n p w S → Asked k n p w S S′ → Served k n p w S S′
+served {S} {S′} k n p w f a = record { phase = a .phase; gives = go k (λ q l i. a .near q l i) }
+  where
+    go : (k : Bus.Kind) → ((q : ℕ) → q < n → q ≢ p → S′ .copy w q ≡ Bus.snoops k (S .copy w q)) → Gives k (S′ .copy w) p
+    go Bus.reading h = λ q i. elim (decLt q n) [ yes l ↦ rw (h q l i) (excl-shared (S .copy w q)) | no l ↦ rw (far-after f (a .phase) q (omega arith) i) ]
+    go Bus.owning h = λ q i. elim (decLt q n) [ yes l ↦ h q l i ∙ taken-none (S .copy w q) | no l ↦ far-after f (a .phase) q (omega arith) i ]
+
+pub by-grant : {S S′ : View} (k : Bus.Kind) (n p w : ℕ) → Far n p w S → Bus.Granted k n p w S S′ → Served k n p w S S′
+by-grant k n p w f g = served k n p w f (asked k n p w (g .nobody) (g .asks))
+
+-- rollbacks of others
+undone-silent : {S S′ : View} (p : ℕ) → Bus.RolledBack p S S′ → Silent S S′
+undone-silent p u = rollback p (u .cache) (u .status)
+
+module _ {so : Copy → Bool} {p w q : ℕ} {S S′ : View} where
+  rollif-silent : Bus.RollIf so p w q S S′ → Silent S S′
+  rollif-silent (Bus.spared h s) = still s
+  rollif-silent (Bus.rolls-back n h u) = undone-silent q u
+
+  rollif-else : Bus.RollIf so p w q S S′ → (r : ℕ) → r ≢ q → S′ .copy w r ≡ S .copy w r
+  rollif-else (Bus.spared h s) r i = s .copy-same w r
+  rollif-else (Bus.rolls-back n h u) r i = u .cache .else w r i
+
+  rollif-here : Bus.RollIf so p w q S S′ → q ≢ p → ((c : Copy) → so (rolledBack c) ≡ false) → so (S′ .copy w q) ≡ false
+  rollif-here (Bus.spared (inl e) s) i z = absurd (i e)
+  rollif-here (Bus.spared (inr e) s) i z = rw (s .copy-same w q) e
+  rollif-here (Bus.rolls-back n h u) i z = rw (u .cache .here w) (z (S .copy w q))
+
+  rollif-keeps : Bus.RollIf so p w q S S′ → Kept p w S S′
+  rollif-keeps (Bus.spared h s) = record { copy-kept = s .copy-same w p; active-kept = s .active-same p; status-kept = s .status-same p }
+  rollif-keeps (Bus.rolls-back n h u) =
+      let i : p ≢ q = λ e. n (sym e) in
+      record { copy-kept = u .cache .else w p i; active-kept = u .cache .active-else p i; status-kept = u .cache .status-else p i }
+
+pub record Cleared (so : Copy → Bool) (n p w : ℕ) (S S′ : View) : Type 0 where
+  pub phase : Phase n p w S S′
+  pub near : (q : ℕ) → q < n → q ≢ p → so (S′ .copy w q) ≡ false
+
+pub cleared : {S S′ : View} (so : Copy → Bool) → ((c : Copy) → so (rolledBack c) ≡ false) → (n p w : ℕ)
+    → Bus.Each (Bus.RollIf so p w) n S S′ → Cleared so n p w S S′
+cleared so z n p w Bus.start = record { phase = record { runs = done; keeps = kept-refl; far = λ q l i. refl }; near = λ q l i. absurd (omega arith) }
+cleared {S} {S′} so z n p w (Bus.and-then {n = n₁} {S₁ = S₁} c r) = snoc (cleared so z n₁ p w c)
+  where
+    snoc : Cleared so n₁ p w S S₁ → Cleared so (suc n₁) p w S S′
+    snoc a = record {
+      phase = record {
+        runs = run-then (a .phase .runs) (run-one (rollif-silent r));
+        keeps = kept-trans (a .phase .keeps) (rollif-keeps r);
+        far = λ q l i. rollif-else r q (λ j. omega arith) ∙ a .phase .far q (omega arith) i;
+      };
+      near = λ q l i. elim (ℕ-discrete q n₁) [
+        | yes j ↦ rw j (rollif-here r (rw j at i) z)
+        | no j ↦ rw (rollif-else r q j) (a .near q (omega arith) i)
+      ];
+    }
+
+pub refuses-roll : (k : Bus.Kind) (c : Copy) → Bus.refuses k (rolledBack c) ≡ false
+refuses-roll Bus.reading none = refl
+refuses-roll Bus.reading (regular s d) = refl
+refuses-roll Bus.reading (normal s d) = refl
+refuses-roll Bus.reading (tentative s d bare t) = refl
+refuses-roll Bus.reading (tentative s d (backup r e) t) = refl
+refuses-roll Bus.owning c = rolledBack-tentative c
+
+pub refuses-none : (k : Bus.Kind) → Bus.refuses k none ≡ false
+refuses-none Bus.reading = refl
+refuses-none Bus.owning = refl
+
+phase-trans : {n p w : ℕ} {S S₁ S₂ : View} → Phase n p w S S₁ → Phase n p w S₁ S₂ → Phase n p w S S₂
+phase-trans a b = record { runs = run-then (a .runs) (b .runs); keeps = kept-trans (a .keeps) (b .keeps); far = λ q l i. b .far q l i ∙ a .far q l i }
+
+pub by-plain : {S S′ : View} (k : Bus.Kind) (n p w : ℕ) → Far n p w S → Bus.Plainly k n p w S S′ → Served k n p w S S′
+by-plain k n p w f g =
+    let a = cleared (Bus.refuses k) (refuses-roll k) n p w (g .rolls) in
+    let f′ = far-after f (a .phase) in
+    let b = served k n p w f′ (asked k n p w (λ q i. elim (decLt q n) [ yes l ↦ a .near q l i | no l ↦ rw (f′ q (omega arith) i) (refuses-none k) ]) (g .asks)) in
+    record { phase = phase-trans (a .phase) (b .phase); gives = b .gives }
+
+-- freeing a line or an entry
+pub freed-silent : {S S′ : View} (p : ℕ) → Bus.Freed p S S′ → Silent S S′
+freed-silent p (Bus.empty s) = still s
+freed-silent p (Bus.reg-out u at was here m) = move p u at refl m was here drop-reg
+freed-silent p (Bus.norm-out u at was here m) = move p u at refl m was here drop-norm
+freed-silent p (Bus.back-out u at was here m) = move p u at refl m was here drop-back
+
+pub at-other : {S S′ : View} {p u : ℕ} → At p u S S′ → (w q : ℕ) → q ≢ p → S′ .copy w q ≡ S .copy w q
+at-other {S} {S′} {p} {u} at w q n = elim (ℕ-discrete w u) [ yes e ↦ rw e (at .proc-else q n) | no i ↦ at .word-else w i q ]
+
+pub freed-other : {S S′ : View} {p : ℕ} → Bus.Freed p S S′ → (w q : ℕ) → q ≢ p → S′ .copy w q ≡ S .copy w q
+freed-other (Bus.empty s) w q n = s .copy-same w q
+freed-other (Bus.reg-out u at was here m) w q n = at-other at w q n
+freed-other (Bus.norm-out u at was here m) w q n = at-other at w q n
+freed-other (Bus.back-out u at was here m) w q n = at-other at w q n
+
+pub freed-live : {S S′ : View} {p : ℕ} → Bus.Freed p S S′ → Live S p → Live S′ p
+freed-live {p = p} (Bus.empty s) l = (s .active-same p ∙ l .0, s .status-same p ∙ l .1)
+freed-live {p = p} (Bus.reg-out u at was here m) l = (at .active-same p ∙ l .0, at .status-same p ∙ l .1)
+freed-live {p = p} (Bus.norm-out u at was here m) l = (at .active-same p ∙ l .0, at .status-same p ∙ l .1)
+freed-live {p = p} (Bus.back-out u at was here m) l = (at .active-same p ∙ l .0, at .status-same p ∙ l .1)
+
+pub freed-none : {S S′ : View} {p : ℕ} → Bus.Freed p S S′ → (w : ℕ) → S .copy w p ≡ none → S′ .copy w p ≡ none
+freed-none {p = p} (Bus.empty s) w e = s .copy-same w p ∙ e
+freed-none {p = p} (Bus.reg-out u at was here m) w e = elim (ℕ-discrete w u) [ yes i ↦ rw i here | no i ↦ at .word-else w i p ∙ e ]
+freed-none {p = p} (Bus.norm-out u at was here m) w e = elim (ℕ-discrete w u) [ yes i ↦ rw i here | no i ↦ at .word-else w i p ∙ e ]
+freed-none {p = p} (Bus.back-out u at was here m) w e = elim (ℕ-discrete w u) [ yes i ↦ absurd (true≢false (cc)) | no i ↦ at .word-else w i p ∙ e ]
+
+far-freed : {S S′ : View} {n p w : ℕ} → Far n p w S → Bus.Freed p S S′ → Far n p w S′
+far-freed {w = w} f d q l i = freed-other d w q i ∙ f q l i
+
+pub same-refl : {S : View} → Same S S
+same-refl = record { memory-same = λ u. refl; copy-same = λ u q. refl; active-same = λ q. refl; status-same = λ q. refl }
+
+pub cache-refl : {p : ℕ} {S : View} → OnlyProcessor same p S S
+cache-refl = record { memory-same = λ u. refl; here = λ u. refl; else = λ u q n. refl; active-else = λ q n. refl; status-else = λ q n. refl }
+
+hits-sees : (k : Copy) (x : ℕ) → Bus.hits k x → sees k x
+hits-sees none x h = h
+hits-sees (regular s d) x h = h
+hits-sees (normal s d) x h = h
+hits-sees (tentative s d b t) x h = (not-up s (h .0), h .1)
+
+far-undone : {S S′ : View} {n p w : ℕ} → Far n p w S → Bus.RolledBack p S S′ → Far n p w S′
+far-undone {w = w} f u q l i = u .cache .else w q i ∙ f q l i
+
+shown : {S S′ : View} {e : Event} → Shown S S′ e → Run S (e ∷ []) S′
+shown s = showing s done
+
+fetched-run : {S S′ : View} (n p w x : ℕ) → Far n p w S → S .copy w p ≡ none → Bus.Fetched n p w x S S′ → Run S (load p w x ∷ []) S′
+fetched-run {S} {S′} n p w x f e g =
+    let s = by-plain Bus.reading n p w (far-freed f (g .frees)) (g .asks) in
+    let i : g .bus .copy w p ≡ none = s .phase .keeps .copy-kept ∙ freed-none (g .frees) w e in
+    quietly (freed-silent p (g .frees))
+    (run-then (s .phase .runs)
+    (quietly (move p w (g .at) refl (g .memory-same) i (g .here ∙ ap (regular valid) (sym (g .gives))) (fill-reg (s .gives)))
+    (shown (loads p w {x = x} same-refl (rw (g .here) refl)))))
+
+-- STORE's and the transactional steps' preparations
+unheld-run : {S S′ : View} {p w : ℕ} → Bus.Unheld p w S S′ → Run S [] S′
+unheld-run (Bus.un-tent h s) = run-one (still s)
+unheld-run {p = p} (Bus.re-tent h u) = run-one (undone-silent p u)
+
+unheld-other : {S S′ : View} {p w : ℕ} → Bus.Unheld p w S S′ → (q : ℕ) → q ≢ p → S′ .copy w q ≡ S .copy w q
+unheld-other {w = w} (Bus.un-tent h s) q n = s .copy-same w q
+unheld-other {w = w} (Bus.re-tent h u) q n = u .cache .else w q n
+
+unnormal-run : {S S′ : View} {p w : ℕ} → Bus.Unnormal p w S S′ → Run S [] S′
+unnormal-run (Bus.un-norm h s) = run-one (still s)
+unnormal-run {p = p} {w = w} (Bus.re-norm at was here m) = run-one (move p w at refl m was here drop-norm)
+
+unnormal-other : {S S′ : View} {p w : ℕ} → Bus.Unnormal p w S S′ → (q : ℕ) → q ≢ p → S′ .copy w q ≡ S .copy w q
+unnormal-other {w = w} (Bus.un-norm h s) q n = s .copy-same w q
+unnormal-other (Bus.re-norm at was here m) q n = at .proc-else q n
+
+unregular-run : {S S′ : View} {p w : ℕ} → Bus.Unregular p w S S′ → Run S [] S′
+unregular-run (Bus.un-reg h s) = run-one (still s)
+unregular-run {p = p} {w = w} (Bus.re-reg at was here m) = run-one (move p w at refl m was here drop-reg)
+
+unregular-other : {S S′ : View} {p w : ℕ} → Bus.Unregular p w S S′ → (q : ℕ) → q ≢ p → S′ .copy w q ≡ S .copy w q
+unregular-other {w = w} (Bus.un-reg h s) q n = s .copy-same w q
+unregular-other (Bus.re-reg at was here m) q n = at .proc-else q n
+
+unregular-live : {S S′ : View} {p w : ℕ} → Bus.Unregular p w S S′ → Live S p → Live S′ p
+unregular-live {p = p} (Bus.un-reg h s) l = (s .active-same p ∙ l .0, s .status-same p ∙ l .1)
+unregular-live {p = p} (Bus.re-reg at was here m) l = (at .active-same p ∙ l .0, at .status-same p ∙ l .1)
+
+-- a phase of a live transaction: p stays live, and the others' copies of w stay
+pub record Live→ (p w : ℕ) (S S′ : View) : Type 0 where
+  pub runs : Run S [] S′
+  pub lives : Live S′ p
+  pub others : (q : ℕ) → q ≢ p → S′ .copy w q ≡ S .copy w q
+
+at-live : {S S′ : View} {p w : ℕ} → At p w S S′ → Live S p → Live S′ p
+at-live {p = p} at l = (at .active-same p ∙ l .0, at .status-same p ∙ l .1)
+
+begun-run : {S S′ : View} (p w : ℕ) → Live S p → Bus.Begun p w S S′ → Live→ p w S S′
+begun-run p w l (Bus.with-backup fr was at here i m) = record {
+  runs = quietly (freed-silent p fr) (run-one (move p w at refl m was here (begin-kept (freed-live fr l) i)));
+  lives = at-live at (freed-live fr l);
+  others = λ q n. at .proc-else q n ∙ freed-other fr w q n;
+}
+begun-run p w l (Bus.without at was here m) = record {
+  runs = run-one (move p w at refl m was here (begin-bare l));
+  lives = at-live at l;
+  others = at .proc-else;
+}
+
+starts-run : {S S′ : View} (p w : ℕ) → Live S p → Bus.Starts p w S S′ → Live→ p w S S′
+starts-run p w l (Bus.not-normal h s) = record { runs = run-one (still s); lives = (s .active-same p ∙ l .0, s .status-same p ∙ l .1); others = λ q n. s .copy-same w q }
+starts-run p w l (Bus.opens b) = begun-run p w l b
+
+opened-run : {S S′ : View} (p w : ℕ) → Bus.Opened p w S S′ → Live→ p w S S′
+opened-run p w o =
+    let l = unregular-live (o .clears) (o .wakes .active, o .wakes .status ∙ o .sound) in
+    let s = starts-run p w l (o .starts) in
+    record {
+      runs = quietly (wake p (o .wakes .cache) (o .wakes .active) (o .wakes .status)) (run-then (unregular-run (o .clears)) (s .runs));
+      lives = s .lives;
+      others = λ q n. s .others q n ∙ (unregular-other (o .clears) q n ∙ o .wakes .cache .else w q n);
+    }
+
+far-live : {S S′ : View} {n p w : ℕ} → Far n p w S → Live→ p w S S′ → Far n p w S′
+far-live f a q l i = a .others q i ∙ f q l i
+
+phase-live : {n p w : ℕ} {S S′ : View} → Live S p → Phase n p w S S′ → Live S′ p
+phase-live l ph = (ph .keeps .active-kept ∙ l .0, ph .keeps .status-kept ∙ l .1)
+
+held-run : {S S′ : View} (k : Bus.Kind) (n p w : ℕ) → Far n p w S → Live S p → Bus.Held k n p w S S′ → Run S [] S′
+held-run k n p w f l (Bus.has-it was en s) = run-one (still s)
+held-run k n p w f l (Bus.raises was g at here m) =
+    let s = by-grant Bus.owning n p w f g in
+    run-then (s .phase .runs) (run-one (move p w at refl m (s .phase .keeps .copy-kept ∙ was) here (upgrade (s .gives))))
+held-run {S} {S′} k n p w f l (Bus.misses {b} {S₁} {S₂} {S₃} was fr fr′ g at bk here m) =
+    let s = by-grant k n p w (far-freed (far-freed f fr) fr′) g in
+    let i : S₃ .copy w p ≡ none = s .phase .keeps .copy-kept ∙ freed-none fr′ w (freed-none fr w was) in
+    let l₃ = phase-live (freed-live fr′ (freed-live fr l)) (s .phase) in
+    quietly (freed-silent p fr) (quietly (freed-silent p fr′) (run-then (s .phase .runs) (run-one (fills k (s .gives) i l₃ bk here))))
+  where
+    fills : (k : Bus.Kind) → Gives k (S₃ .copy w) p → S₃ .copy w p ≡ none → Live S₃ p → (b ≡ bare) ⊎ (b ≡ backup (Bus.granted k) (S₃ .memory w))
+        → S′ .copy w p ≡ tentative (Bus.granted k) (S₃ .memory w) b false → Silent S₃ S′
+    fills Bus.reading g i l (inl e) here = move p w at refl m i (rw e at here) (fill-tent l g)
+    fills Bus.reading g i l (inr e) here = move p w at refl m i (rw e at here) (fill-kept l g)
+    fills Bus.owning g i l (inl e) here = move p w at refl m i (rw e at here) (own-tent l g)
+    fills Bus.owning g i l (inr e) here = move p w at refl m i (rw e at here) (own-kept l g)
+
+undone-bare : {S S′ : View} (p : ℕ) → Bus.RolledBack p S S′ → (w : ℕ) → isTentative (S′ .copy w p) ≡ false
+undone-bare {S} p u w = rw (u .cache .here w) (rolledBack-tentative (S .copy w p))
+
+-- rolled back, p shows only that its transaction is lost
+lost : {S S′ : View} (p : ℕ) → Bus.RolledBack p S S′ → Run S (drop p ∷ []) S′
+lost p u = quietly (undone-silent p u) (shown (drops p (undone-bare p u) cache-refl))
+
+denied-run : {S S′ : View} (k : Bus.Kind) (p w : ℕ) → Bus.Denied k p w S S′ → Run S (drop p ∷ []) S′
+denied-run k p w (Bus.no-room was u) = lost p u
+denied-run k p w (Bus.no-raise was z u) = lost p u
+denied-run k p w (Bus.no-grant was fr fr′ z u) = quietly (freed-silent p fr) (quietly (freed-silent p fr′) (lost p u))
+
+-- with TSTATUS false p holds nothing tentatively
+dead-bare : {S : View} {M : ℕ → ℕ} (p : ℕ) → Agree S M → S .status p ≡ false → (w : ℕ) → isTentative (S .copy w p) ≡ false
+dead-bare {S} p A d w = go (isTentative (S .copy w p)) refl
+  where
+    go : (b : Bool) → isTentative (S .copy w p) ≡ b → b ≡ false
+    go true e = absurd (true≢false (sym (A .live w p e .1) ∙ d))
+    go false e = refl
+
+held-up : {S S′ : View} (n p w : ℕ) {s : LineState} {x : ℕ} {b : Back} {t : Bool} → Bus.Held Bus.owning n p w S S′ → S′ .copy w p ≡ tentative s x b t → above s ≡ true
+held-up n p w (Bus.has-it was en i) h = cc (i .copy-same w p)
+held-up n p w (Bus.raises was g at here m) h = cc
+held-up n p w (Bus.misses was fr fr′ g at bk here m) h = cc
+
+module _ {S : View} {M : ℕ → ℕ} (n : ℕ) (A : Agree S M) (within : (w p : ℕ) → n ≤ p → S .copy w p ≡ none) where
+  far : (p w : ℕ) → Far n p w S
+  far p w q l i = within w q l
+
+  pub step-run : {S′ : View} {o : Bus.Op} {a : Bus.Answer} → Bus.Step n S S′ o a → Run S (Bus.shows o a) S′
+  step-run (Bus.load-hit {p} {w} {x} h s) = shown (loads p w {x = x} s (hits-sees (S .copy w p) x h))
+  step-run (Bus.load-back {p} {w} {x} was u ud) = quietly (undone-silent p ud) (shown (loads p w {x = x} same-refl (rw (ud .cache .here w, was) refl)))
+  step-run (Bus.load-miss {p} {w} {x} was g) = fetched-run n p w x (far p w) was g
+  step-run (Bus.load-bare {p} {w} {x} was u ud g) = quietly (undone-silent p ud) (fetched-run n p w x (far-undone (far p w) ud) (ud .cache .here w ∙ rw was) g)
+  step-run (Bus.store-hit {p} {w} a b was u at here m) =
+      run-then (unheld-run a) (run-then (unnormal-run b) (shown (stores p w at was u here)))
+  step-run (Bus.store-through {p} {w} a b was g at here m) =
+      let s = by-plain Bus.owning n p w (λ q l i. unnormal-other b q i ∙ (unheld-other a q i ∙ far p w q l i)) g in
+      run-then (unheld-run a) (run-then (unnormal-run b) (run-then (s .phase .runs) (shown (writes p w at (rw (s .phase .keeps .copy-kept ∙ was)) (s .gives) here (λ h. m)))))
+  step-run (Bus.store-miss {p} {w} a b was fr g at here m) =
+      let s = by-plain Bus.owning n p w (far-freed (λ q l i. unnormal-other b q i ∙ (unheld-other a q i ∙ far p w q l i)) fr) g in
+      run-then (unheld-run a) (run-then (unnormal-run b) (quietly (freed-silent p fr) (run-then (s .phase .runs) (shown (writes p w at (rw (s .phase .keeps .copy-kept ∙ freed-none fr w was)) (s .gives) here (λ h. absurd (true≢false h)))))))
+  step-run (Bus.lt {p} {w} {x} o h was) =
+      let a = opened-run p w o in
+      run-then (a .runs) (run-then (held-run Bus.reading n p w (far-live (far p w) a) (a .lives) h) (shown (treads p w same-refl was)))
+  step-run (Bus.ltx {p} {w} {x} o h was) =
+      let a = opened-run p w o in
+      run-then (a .runs) (run-then (held-run Bus.owning n p w (far-live (far p w) a) (a .lives) h) (shown (treads p w same-refl was)))
+  step-run (Bus.st {p} {w} o h was at here m) =
+      let a = opened-run p w o in
+      run-then (a .runs) (run-then (held-run Bus.owning n p w (far-live (far p w) a) (a .lives) h) (shown (twrites p w at was (held-up n p w h was) here m)))
+  step-run (Bus.lt-no {p} {w} o d) = run-then (opened-run p w o .runs) (denied-run Bus.reading p w d)
+  step-run (Bus.ltx-no {p} {w} o d) = run-then (opened-run p w o .runs) (denied-run Bus.owning p w d)
+  step-run (Bus.st-no {p} {w} o d) = run-then (opened-run p w o .runs) (denied-run Bus.owning p w d)
+  step-run (Bus.lt-dead {p} z k) = shown (drops p (dead-bare p A z) (k .cache))
+  step-run (Bus.ltx-dead {p} z k) = shown (drops p (dead-bare p A z) (k .cache))
+  step-run (Bus.st-dead {p} z k) = shown (drops p (dead-bare p A z) (k .cache))
+  step-run (Bus.commit-yes {p} z c f g) = shown (commits p z c)
+  step-run (Bus.commit-no {p} z e) = shown (drops p (dead-bare p A z) (e .cache))
+  step-run (Bus.aborts {p} u e) = quietly (undone-silent p u) (shown (drops p (undone-bare p u) (e .cache)))
+  step-run (Bus.validate-yes {p} z s) = run-one (still s)
+  step-run (Bus.validate-no {p} z e) = shown (drops p (dead-bare p A z) (e .cache))
+  step-run (Bus.interrupts {p} u) = lost p u

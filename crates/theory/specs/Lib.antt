@@ -1,0 +1,3 @@
+pub mod Event
+pub mod Log
+pub mod Plain
