@@ -8,15 +8,6 @@ use Rattle.theory.proofs.View.{LineState, valid, reserved, dirty, Back,
 use Rattle.theory.specs.Event.{Event, load, store, tread, twrite, commit, drop}
 use Rattle.theory.proofs.Moves.{At, OnlyProcessor, same, Same}
 
-pub data Op : Type 0 where
-  LOAD LT LTX : ℕ → ℕ → Op  -- processor, word
-  STORE ST : ℕ → ℕ → ℕ → Op  -- processor, word, value
-  COMMIT ABORT VALIDATE INTERRUPT : ℕ → Op
-
-pub data Answer : Type 0 where
-  VALUE : ℕ → Answer
-  DONE ABORTED SUCCESS FAILURE TRUE FALSE : Answer
-
 -- a line or an entry of p is freed: it was empty, or what it held is written back if DIRTY
 pub data Freed (p : ℕ) (S S′ : View) : Type 0 where
   empty : Same S S′ → Freed p S S′
@@ -196,43 +187,33 @@ pub record Ended (p : ℕ) (S S′ : View) : Type 0 where
   pub active : S′ .active p ≡ false
   pub status : S′ .status p ≡ true
 
-pub data Step (n : ℕ) (S S′ : View) : Op → Answer → Type 0 where
-  load-hit : {p w x : ℕ} → hits (S .copy w p) x → Same S S′ → Step n S S′ (LOAD p w) (VALUE x)
-  load-back : {p w x : ℕ} {s r : LineState} {d : ℕ} {t : Bool} → S .copy w p ≡ tentative s d (backup r x) t → above s ≡ true → RolledBack p S S′ → Step n S S′ (LOAD p w) (VALUE x)
-  load-miss : {p w x : ℕ} → S .copy w p ≡ none → Fetched n p w x S S′ → Step n S S′ (LOAD p w) (VALUE x)
-  load-bare : {p w x : ℕ} {s : LineState} {d : ℕ} {t : Bool} {S₁ : View} → S .copy w p ≡ tentative s d bare t → above s ≡ true → RolledBack p S S₁ → Fetched n p w x S₁ S′
-      → Step n S S′ (LOAD p w) (VALUE x)
-  store-hit : {p w v : ℕ} {s : LineState} {d : ℕ} {S₁ S₂ : View} → Unheld p w S S₁ → Unnormal p w S₁ S₂ → S₂ .copy w p ≡ regular s d → above s ≡ true
-      → At p w S₂ S′ → S′ .copy w p ≡ regular dirty v → S′ .memory w ≡ S₂ .memory w → Step n S S′ (STORE p w v) DONE
+-- a step, and the events that it shows
+pub data Step (n : ℕ) (S S′ : View) : List Event → Type 0 where
+  load-hit : {p w x : ℕ} → hits (S .copy w p) x → Same S S′ → Step n S S′ (load p w x ∷ [])
+  load-back : {p w x : ℕ} {s r : LineState} {d : ℕ} {t : Bool} → S .copy w p ≡ tentative s d (backup r x) t → above s ≡ true
+      → RolledBack p S S′ → Step n S S′ (load p w x ∷ [])
+  load-miss : {p w x : ℕ} → S .copy w p ≡ none → Fetched n p w x S S′ → Step n S S′ (load p w x ∷ [])
+  load-bare : {p w x : ℕ} {s : LineState} {d : ℕ} {t : Bool} {S₁ : View} → S .copy w p ≡ tentative s d bare t → above s ≡ true
+      → RolledBack p S S₁ → Fetched n p w x S₁ S′ → Step n S S′ (load p w x ∷ [])
+  store-hit : {p w v : ℕ} {s : LineState} {d : ℕ} {S₁ S₂ : View} → Unheld p w S S₁ → Unnormal p w S₁ S₂ → S₂ .copy w p ≡ regular s d
+      → above s ≡ true → At p w S₂ S′ → S′ .copy w p ≡ regular dirty v → S′ .memory w ≡ S₂ .memory w → Step n S S′ (store p w v ∷ [])
   store-through : {p w v d : ℕ} {S₁ S₂ S₃ : View} → Unheld p w S S₁ → Unnormal p w S₁ S₂ → S₂ .copy w p ≡ regular valid d
-      → Plainly owning n p w S₂ S₃ → At p w S₃ S′ → S′ .copy w p ≡ regular reserved v → S′ .memory w ≡ v → Step n S S′ (STORE p w v) DONE
+      → Plainly owning n p w S₂ S₃ → At p w S₃ S′ → S′ .copy w p ≡ regular reserved v → S′ .memory w ≡ v → Step n S S′ (store p w v ∷ [])
   store-miss : {p w v : ℕ} {S₁ S₂ S₃ S₄ : View} → Unheld p w S S₁ → Unnormal p w S₁ S₂ → S₂ .copy w p ≡ none → Freed p S₂ S₃
-      → Plainly owning n p w S₃ S₄ → At p w S₄ S′ → S′ .copy w p ≡ regular dirty v → S′ .memory w ≡ S₄ .memory w → Step n S S′ (STORE p w v) DONE
-  lt : {p w x : ℕ} {s : LineState} {b : Back} {t : Bool} {S₁ : View} → Opened p w S S₁ → Held reading n p w S₁ S′ → S′ .copy w p ≡ tentative s x b t → Step n S S′ (LT p w) (VALUE x)
-  ltx : {p w x : ℕ} {s : LineState} {b : Back} {t : Bool} {S₁ : View} → Opened p w S S₁ → Held owning n p w S₁ S′ → S′ .copy w p ≡ tentative s x b t → Step n S S′ (LTX p w) (VALUE x)
-  st : {p w v : ℕ} {s : LineState} {d : ℕ} {b : Back} {t : Bool} {S₁ S₂ : View} → Opened p w S S₁ → Held owning n p w S₁ S₂ → S₂ .copy w p ≡ tentative s d b t
-      → At p w S₂ S′ → S′ .copy w p ≡ tentative dirty v b true → S′ .memory w ≡ S₂ .memory w → Step n S S′ (ST p w v) DONE
-  lt-no : {p w : ℕ} {S₁ : View} → Opened p w S S₁ → Denied reading p w S₁ S′ → Step n S S′ (LT p w) ABORTED
-  ltx-no : {p w : ℕ} {S₁ : View} → Opened p w S S₁ → Denied owning p w S₁ S′ → Step n S S′ (LTX p w) ABORTED
-  st-no : {p w v : ℕ} {S₁ : View} → Opened p w S S₁ → Denied owning p w S₁ S′ → Step n S S′ (ST p w v) ABORTED
-  lt-dead : {p w : ℕ} → S .status p ≡ false → Woken p S S′ → Step n S S′ (LT p w) ABORTED
-  ltx-dead : {p w : ℕ} → S .status p ≡ false → Woken p S S′ → Step n S S′ (LTX p w) ABORTED
-  st-dead : {p w v : ℕ} → S .status p ≡ false → Woken p S S′ → Step n S S′ (ST p w v) ABORTED
-  commit-yes : {p : ℕ} → S .status p ≡ true → OnlyProcessor committed p S S′ → S′ .active p ≡ false → S′ .status p ≡ true → Step n S S′ (COMMIT p) SUCCESS
-  commit-no : {p : ℕ} → S .status p ≡ false → Ended p S S′ → Step n S S′ (COMMIT p) FAILURE
-  aborts : {p : ℕ} {S₁ : View} → RolledBack p S S₁ → Ended p S₁ S′ → Step n S S′ (ABORT p) DONE
-  validate-yes : {p : ℕ} → S .status p ≡ true → Same S S′ → Step n S S′ (VALIDATE p) TRUE
-  validate-no : {p : ℕ} → S .status p ≡ false → Ended p S S′ → Step n S S′ (VALIDATE p) FALSE
-  interrupts : {p : ℕ} → RolledBack p S S′ → Step n S S′ (INTERRUPT p) DONE
-
--- what a step shows of the plain machine
-abbrev pub shows : Op → Answer → List Event
-shows (LOAD p w) a = elim a [ VALUE x ↦ load p w x ∷ [] | DONE ↦ [] | ABORTED ↦ [] | SUCCESS ↦ [] | FAILURE ↦ [] | TRUE ↦ [] | FALSE ↦ [] ]
-shows (LT p w) a = elim a [ VALUE x ↦ tread p w x ∷ [] | DONE ↦ [] | ABORTED ↦ drop p ∷ [] | SUCCESS ↦ [] | FAILURE ↦ [] | TRUE ↦ [] | FALSE ↦ [] ]
-shows (LTX p w) a = elim a [ VALUE x ↦ tread p w x ∷ [] | DONE ↦ [] | ABORTED ↦ drop p ∷ [] | SUCCESS ↦ [] | FAILURE ↦ [] | TRUE ↦ [] | FALSE ↦ [] ]
-shows (STORE p w v) a = store p w v ∷ []
-shows (ST p w v) a = elim a [ VALUE x ↦ [] | DONE ↦ twrite p w v ∷ [] | ABORTED ↦ drop p ∷ [] | SUCCESS ↦ [] | FAILURE ↦ [] | TRUE ↦ [] | FALSE ↦ [] ]
-shows (COMMIT p) a = elim a [ VALUE x ↦ [] | DONE ↦ [] | ABORTED ↦ [] | SUCCESS ↦ commit p ∷ [] | FAILURE ↦ drop p ∷ [] | TRUE ↦ [] | FALSE ↦ [] ]
-shows (ABORT p) a = drop p ∷ []
-shows (VALIDATE p) a = elim a [ VALUE x ↦ [] | DONE ↦ [] | ABORTED ↦ [] | SUCCESS ↦ [] | FAILURE ↦ [] | TRUE ↦ [] | FALSE ↦ drop p ∷ [] ]
-shows (INTERRUPT p) a = drop p ∷ []
+      → Plainly owning n p w S₃ S₄ → At p w S₄ S′ → S′ .copy w p ≡ regular dirty v → S′ .memory w ≡ S₄ .memory w
+      → Step n S S′ (store p w v ∷ [])
+  -- LT and LTX; ST; what all three do when refused, when there is no room, and with TSTATUS false
+  gets : {p w x : ℕ} {s : LineState} {b : Back} {t : Bool} {S₁ : View} (k : Kind) → Opened p w S S₁ → Held k n p w S₁ S′
+      → S′ .copy w p ≡ tentative s x b t → Step n S S′ (tread p w x ∷ [])
+  puts : {p w v : ℕ} {s : LineState} {d : ℕ} {b : Back} {t : Bool} {S₁ S₂ : View} → Opened p w S S₁ → Held owning n p w S₁ S₂
+      → S₂ .copy w p ≡ tentative s d b t → At p w S₂ S′ → S′ .copy w p ≡ tentative dirty v b true → S′ .memory w ≡ S₂ .memory w
+      → Step n S S′ (twrite p w v ∷ [])
+  fails : {p w : ℕ} {S₁ : View} (k : Kind) → Opened p w S S₁ → Denied k p w S₁ S′ → Step n S S′ (drop p ∷ [])
+  dead : {p : ℕ} → S .status p ≡ false → Woken p S S′ → Step n S S′ (drop p ∷ [])
+  commit-yes : {p : ℕ} → S .status p ≡ true → OnlyProcessor committed p S S′ → S′ .active p ≡ false → S′ .status p ≡ true
+      → Step n S S′ (commit p ∷ [])
+  -- COMMIT and VALIDATE with TSTATUS false
+  over : {p : ℕ} → S .status p ≡ false → Ended p S S′ → Step n S S′ (drop p ∷ [])
+  aborts : {p : ℕ} {S₁ : View} → RolledBack p S S₁ → Ended p S₁ S′ → Step n S S′ (drop p ∷ [])
+  validate-yes : {p : ℕ} → S .status p ≡ true → Same S S′ → Step n S S′ []
+  interrupts : {p : ℕ} → RolledBack p S S′ → Step n S S′ (drop p ∷ [])

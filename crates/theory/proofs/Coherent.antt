@@ -12,7 +12,7 @@ use Rattle.theory.specs.Event.{Event}
 use Rattle.theory.proofs.Moves.{Silent, still, Shown, loads, stores, writes, treads, twrites, releases, commits, drops, Run, done, quietly, showing, At}
 use Rattle.theory.proofs.Agree.{Agree, agree-at, agree-silent, agree-commit, agree-flags}
 use Rattle.theory.proofs.Settled.{Coherent, Within, coarse, coherent→agree, agree→coherent, settled}
-use Rattle.theory.proofs.Bus.{Op, Answer, Step, shows}
+use Rattle.theory.proofs.Bus.{Step}
 use Rattle.theory.proofs.Refine.{step-run}
 
 -- the settled values that an event leaves
@@ -54,5 +54,5 @@ agree-run A (showing s r) = agree-run (agree-shown A s .agree) r
 pub coherent-run : {S S′ : View} {es : List Event} (n : ℕ) → Coherent n S → ((w p : ℕ) → coarse (S .copy w p)) → Within n S′ → Run S es S′ → Coherent n S′
 coherent-run n C co b r = agree→coherent n (agree-run (coherent→agree n C co) r .agree) b
 
-pub coherent-step : {S S′ : View} {o : Op} {a : Answer} (n : ℕ) → Coherent n S → ((w p : ℕ) → coarse (S .copy w p)) → Within n S′ → Step n S S′ o a → Coherent n S′
+pub coherent-step : {S S′ : View} {es : List Event} (n : ℕ) → Coherent n S → ((w p : ℕ) → coarse (S .copy w p)) → Within n S′ → Step n S S′ es → Coherent n S′
 coherent-step n C co b s = coherent-run n C co b (step-run n (coherent→agree n C co) (C .within) s)

@@ -379,37 +379,35 @@ module _ {S : View} {M : ℕ → ℕ} (n : ℕ) (A : Agree S M) (within : (w p :
   far : (p w : ℕ) → Far n p w S
   far p w q l i = within w q l
 
-  pub step-run : {S′ : View} {o : Bus.Op} {a : Bus.Answer} → Bus.Step n S S′ o a → Run S (Bus.shows o a) S′
+  pub step-run : {S′ : View} {es : List Event} → Bus.Step n S S′ es → Run S es S′
   step-run (Bus.load-hit {p} {w} {x} h s) = shown (loads p w {x = x} s (hits-sees (S .copy w p) x h))
-  step-run (Bus.load-back {p} {w} {x} was u ud) = quietly (undone-silent p ud) (shown (loads p w {x = x} same-refl (rw (ud .cache .here w, was) refl)))
+  step-run (Bus.load-back {p} {w} {x} was u ud) =
+      quietly (undone-silent p ud) (shown (loads p w {x = x} same-refl (rw (ud .cache .here w, was) refl)))
   step-run (Bus.load-miss {p} {w} {x} was g) = fetched-run n p w x (far p w) was g
-  step-run (Bus.load-bare {p} {w} {x} was u ud g) = quietly (undone-silent p ud) (fetched-run n p w x (far-undone (far p w) ud) (ud .cache .here w ∙ rw was) g)
+  step-run (Bus.load-bare {p} {w} {x} was u ud g) =
+      quietly (undone-silent p ud) (fetched-run n p w x (far-undone (far p w) ud) (ud .cache .here w ∙ rw was) g)
   step-run (Bus.store-hit {p} {w} a b was u at here m) =
       run-then (unheld-run a) (run-then (unnormal-run b) (shown (stores p w at was u here)))
   step-run (Bus.store-through {p} {w} a b was g at here m) =
       let s = by-plain Bus.owning n p w (λ q l i. unnormal-other b q i ∙ (unheld-other a q i ∙ far p w q l i)) g in
-      run-then (unheld-run a) (run-then (unnormal-run b) (run-then (s .phase .runs) (shown (writes p w at (rw (s .phase .keeps .copy-kept ∙ was)) (s .gives) here (λ h. m)))))
+      run-then (unheld-run a) (run-then (unnormal-run b)
+      (run-then (s .phase .runs) (shown (writes p w at (rw (s .phase .keeps .copy-kept ∙ was)) (s .gives) here (λ h. m)))))
   step-run (Bus.store-miss {p} {w} a b was fr g at here m) =
       let s = by-plain Bus.owning n p w (far-freed (λ q l i. unnormal-other b q i ∙ (unheld-other a q i ∙ far p w q l i)) fr) g in
-      run-then (unheld-run a) (run-then (unnormal-run b) (quietly (freed-silent p fr) (run-then (s .phase .runs) (shown (writes p w at (rw (s .phase .keeps .copy-kept ∙ freed-none fr w was)) (s .gives) here (λ h. absurd (true≢false h)))))))
-  step-run (Bus.lt {p} {w} {x} o h was) =
+      let was′ = s .phase .keeps .copy-kept ∙ freed-none fr w was in
+      run-then (unheld-run a) (run-then (unnormal-run b)
+      (quietly (freed-silent p fr) (run-then (s .phase .runs) (shown (writes p w at (rw was′) (s .gives) here (λ h. absurd (true≢false h)))))))
+  step-run (Bus.gets {p} {w} {x} k o h was) =
       let a = opened-run p w o in
-      run-then (a .runs) (run-then (held-run Bus.reading n p w (far-live (far p w) a) (a .lives) h) (shown (treads p w same-refl was)))
-  step-run (Bus.ltx {p} {w} {x} o h was) =
+      run-then (a .runs) (run-then (held-run k n p w (far-live (far p w) a) (a .lives) h) (shown (treads p w same-refl was)))
+  step-run (Bus.puts {p} {w} o h was at here m) =
       let a = opened-run p w o in
-      run-then (a .runs) (run-then (held-run Bus.owning n p w (far-live (far p w) a) (a .lives) h) (shown (treads p w same-refl was)))
-  step-run (Bus.st {p} {w} o h was at here m) =
-      let a = opened-run p w o in
-      run-then (a .runs) (run-then (held-run Bus.owning n p w (far-live (far p w) a) (a .lives) h) (shown (twrites p w at was (held-up n p w h was) here m)))
-  step-run (Bus.lt-no {p} {w} o d) = run-then (opened-run p w o .runs) (denied-run Bus.reading p w d)
-  step-run (Bus.ltx-no {p} {w} o d) = run-then (opened-run p w o .runs) (denied-run Bus.owning p w d)
-  step-run (Bus.st-no {p} {w} o d) = run-then (opened-run p w o .runs) (denied-run Bus.owning p w d)
-  step-run (Bus.lt-dead {p} z k) = shown (drops p (dead-bare p A z) (k .cache))
-  step-run (Bus.ltx-dead {p} z k) = shown (drops p (dead-bare p A z) (k .cache))
-  step-run (Bus.st-dead {p} z k) = shown (drops p (dead-bare p A z) (k .cache))
+      run-then (a .runs) (run-then (held-run Bus.owning n p w (far-live (far p w) a) (a .lives) h)
+      (shown (twrites p w at was (held-up n p w h was) here m)))
+  step-run (Bus.fails {p} {w} k o d) = run-then (opened-run p w o .runs) (denied-run k p w d)
+  step-run (Bus.dead {p} z k) = shown (drops p (dead-bare p A z) (k .cache))
   step-run (Bus.commit-yes {p} z c f g) = shown (commits p z c)
-  step-run (Bus.commit-no {p} z e) = shown (drops p (dead-bare p A z) (e .cache))
+  step-run (Bus.over {p} z e) = shown (drops p (dead-bare p A z) (e .cache))
   step-run (Bus.aborts {p} u e) = quietly (undone-silent p u) (shown (drops p (undone-bare p u) (e .cache)))
   step-run (Bus.validate-yes {p} z s) = run-one (still s)
-  step-run (Bus.validate-no {p} z e) = shown (drops p (dead-bare p A z) (e .cache))
   step-run (Bus.interrupts {p} u) = lost p u
