@@ -8,7 +8,7 @@ use native.Mathlib.Omega.{arith}
 use lib.Dec.{eqb, ltb}
 use lib.ListN.{length, getD, set}
 use lib.Seq.{getD-set-same, getD-set-other}
-use borrow.Author.Tests.{lt-ltb, ltb-true}
+use borrow.Author.Tests.{lt-ltb, le-ltb, ltb-true}
 use Rattle.laws.specs.Choice.{pick, both}
 use Rattle.entry.specs.declared.Entry.{Entry}
 use Rattle.entry.specs.Numbers.{INVALID, RESERVED, DIRTY, NORMAL, BACKUP, TENTATIVE}
@@ -68,6 +68,10 @@ module _ {A : Type 0} (f : Entry → A) (z : A) (n m : ℕ) where
   pub read-at : (l : List ℕ) (p i : ℕ) → p < n → i < m → readBy f z n m l p i ≡ f (copyAt l p i)
   unfolding readBy
   read-at l p i lp li = rw (lt-ltb p n lp, lt-ltb i m li)
+
+  pub read-out : (l : List ℕ) (p i : ℕ) → n ≤ p → readBy f z n m l p i ≡ z
+  unfolding readBy
+  read-out l p i lp = rw (le-ltb p n lp)
 
   -- only copies within the dimensions are read
   pub read-same : (l l′ : List ℕ) (p i : ℕ) → (p < n → i < m → copyAt l′ p i ≡ copyAt l p i) → readBy f z n m l′ p i ≡ readBy f z n m l p i

@@ -4,3 +4,8 @@ pub mod Set
 pub mod Over
 pub mod Flag
 pub mod Ends
+pub mod Codes
+pub mod Find
+pub mod Others
+pub mod Snoop
+pub mod Requests

@@ -1,5 +1,5 @@
 -- One line or one entry is set, and one word of memory may change: what that is to the theory, and that the frame stays.
-use mathlib.Core.Path.{_≡_, refl, sym, _∙_, ap}
+use mathlib.Core.Path.{_≡_, refl, sym, _∙_, ap, subst}
 use mathlib.Core.Logic.{_≢_, _⊎_, inl, inr}
 use mathlib.Core.Bool.{Bool, true, false}
 use mathlib.Core.List.{List}
@@ -74,6 +74,16 @@ written-here m e l = by (eqb (e .state) DIRTY) refl
         → getD (pick b (set m (e .word) (e .«data»)) m) (e .word) 0 ≡ wrote (stateOf (e .state)) (e .«data») (getD m (e .word) 0)
     by true h = getD-set-same m (e .word) (e .«data») 0 (l (eqb-true (e .state) DIRTY h)) ∙ rw h
     by false h = sym (dry-code (e .state) (e .«data») (getD m (e .word) 0) h)
+
+-- the same, of a copy whose word is known
+module _ {d : Dims} {s : Caches} (F : Frame d s) (e : Entry) {w : ℕ} (ew : e .word ≡ w) (lw : e .state ≡ DIRTY → e .word < d .words) where
+  pub back-at : e .«data» < valueEnd → Memory d s w (writtenBack (s .memory) e)
+  back-at lv = subst (λ (u : ℕ). Memory d s u (writtenBack (s .memory) e)) ew (memory-back F e lw lv)
+
+  pub back-here : getD (writtenBack (s .memory) e) w 0 ≡ wrote (stateOf (e .state)) (e .«data») (wordAt s w)
+  back-here =
+      subst (λ (u : ℕ). getD (writtenBack (s .memory) e) u 0 ≡ wrote (stateOf (e .state)) (e .«data») (wordAt s u)) ew
+      (written-here (s .memory) e (λ x. omega (arith, F .memory .long, F .size .words, lw x)))
 
 module _ {d : Dims} {s : Caches} (F : Frame d s) {u : ℕ} {m : List ℕ} (M : Memory d s u m) (p i : ℕ) (lp : p < d .processors) (e : Entry) (ok : InRange e) where
   module _ (li : i < d .entries) where
