@@ -34,9 +34,9 @@ use Rattle.serial.proofs.Over.{over-in, over-else, over-copies, slot-ro
 use Rattle.serial.proofs.Flag.{flag, FlagsTo, set-active, down, ended-flags}
 
 -- an outcome is a step of the theory that shows the events of its answer, and leaves the state fit
-pub record Does (d : Dims) (s : Caches) (es : Answer → List Event) (r : Outcome) : Type 0 where
+pub record Does (d : Dims) (S : View) (es : Answer → List Event) (r : Outcome) : Type 0 where
   pub fit : Fit d (r .after)
-  pub step : Step (d .processors) (seen d s) (seen d (r .after)) (es (r .told .answer))
+  pub step : Step (d .processors) S (seen d (r .after)) (es (r .told .answer))
 
 module _ {d : Dims} {s : Caches} (F : Fit d s) (p : ℕ) (lp : p < d .processors) where
   -- p's entries by g, and p's flags
@@ -130,19 +130,19 @@ module _ {d : Dims} {s : Caches} (F : Fit d s) (p : ℕ) (lp : p < d .processors
   pub status-at : decoded d s .status p ≡ TSTATUS s p
   status-at = rw (lt-ltb p (d .processors) lp)
 
-  pub interrupt-does : Does d s (byEnd p) (Ends.interrupt d p s)
+  pub interrupt-does : Does d (seen d s) (byEnd p) (Ends.interrupt d p s)
   unfolding Ends.interrupt
   interrupt-does = record { fit = rollback-fit; step = interrupts rollback-is }
 
-  pub validate-does : Does d s (byEnd p) (Ends.validate p s)
+  pub validate-does : Does d (seen d s) (byEnd p) (Ends.validate p s)
   unfolding Ends.validate
   validate-does = by (TSTATUS s p) refl
     where
-      by : (b : Bool) → TSTATUS s p ≡ b → Does d s (byEnd p) (pick b (gives True noCycles s) (gives False noCycles (ended p s)))
+      by : (b : Bool) → TSTATUS s p ≡ b → Does d (seen d s) (byEnd p) (pick b (gives True noCycles s) (gives False noCycles (ended p s)))
       by true e = record { fit = F; step = validate-yes (status-at ∙ e) same-refl }
       by false e = record { fit = ended-fit; step = over (status-at ∙ e) ended-is }
 
-  pub commit-does : Does d s (byEnd p) (Ends.commit d p s)
+  pub commit-does : Does d (seen d s) (byEnd p) (Ends.commit d p s)
   unfolding Ends.commit committedEntries
   commit-does = by (TSTATUS s p) refl
     where
@@ -154,7 +154,7 @@ module _ {d : Dims} {s : Caches} (F : Fit d s) (p : ℕ) (lp : p < d .processors
       all = slots-committed (d .entries) (home d) p (F .tidy) (maps committed range-committed slotCommit slot-committed T)
 
       by : (b : Bool) → TSTATUS s p ≡ b
-          → Does d s (byEnd p)
+          → Does d (seen d s) (byEnd p)
           (pick b (gives Success noCycles (mapped committed range-committed slotCommit slot-committed T)) (gives Failure noCycles (ended p s)))
       by true e = record {
         fit = record { frame = mapped-frame committed range-committed slotCommit slot-committed T (λ i e. fits-committed e); tidy = all .0 };
@@ -162,7 +162,7 @@ module _ {d : Dims} {s : Caches} (F : Fit d s) (p : ℕ) (lp : p < d .processors
       }
       by false e = record { fit = ended-fit; step = over (status-at ∙ e) ended-is }
 
-pub abort-does : {d : Dims} {s : Caches} → Fit d s → (p : ℕ) → p < d .processors → Does d s (byEnd p) (Ends.abort d p s)
+pub abort-does : {d : Dims} {s : Caches} → Fit d s → (p : ℕ) → p < d .processors → Does d (seen d s) (byEnd p) (Ends.abort d p s)
 unfolding Ends.abort
 abort-does F p lp =
     let R = rollback-fit F p lp in

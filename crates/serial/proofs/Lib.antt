@@ -9,3 +9,6 @@ pub mod Find
 pub mod Others
 pub mod Snoop
 pub mod Requests
+pub mod Lined
+pub mod Load
+pub mod Store
