@@ -12,3 +12,6 @@ pub mod Requests
 pub mod Lined
 pub mod Load
 pub mod Store
+pub mod Slotted
+pub mod Access
+pub mod Normal
