@@ -15,3 +15,5 @@ pub mod Store
 pub mod Slotted
 pub mod Access
 pub mod Normal
+pub mod Miss
+pub mod Steps
