@@ -17,3 +17,7 @@ pub mod Access
 pub mod Normal
 pub mod Miss
 pub mod Steps
+pub mod Sizes
+pub mod SoundFit
+pub mod Under
+pub mod SoundCoherent
