@@ -21,3 +21,4 @@ pub mod Sizes
 pub mod SoundFit
 pub mod Under
 pub mod SoundCoherent
+pub mod FitSound
