@@ -22,3 +22,4 @@ pub mod SoundFit
 pub mod Under
 pub mod SoundCoherent
 pub mod FitSound
+pub mod Settles
