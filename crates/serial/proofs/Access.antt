@@ -28,8 +28,9 @@ use Rattle.theory.proofs.Updates.{AllTidy, SlotSet, turned}
 use Rattle.theory.proofs.Bus.{Kind, reading, owning, Step, gets, puts, fails, Opened, Held, has-it, raises, Denied, no-raise, enough, Granted}
 use Rattle.theory.proofs.Refine.{same-refl}
 use Rattle.serial.specs.Shown.{byAccess}
+use Rattle.serial.specs.Taking.{valueEnd}
 use Rattle.serial.proofs.Decode.{stateOf, slotOf, decoded, seen, copy-here}
-use Rattle.serial.proofs.Frame.{valueEnd, EntryFits, Fits}
+use Rattle.serial.proofs.Frame.{EntryFits, Fits}
 use Rattle.serial.proofs.Set.{Fit, entryOn, memory-same, set-slot, entry-fit}
 use Rattle.serial.proofs.Ends.{Does, rollback-fit, rollback-is}
 use Rattle.serial.proofs.Codes.{tentative-slot, above-code, tagged-fits}

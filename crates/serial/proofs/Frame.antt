@@ -18,11 +18,8 @@ use Rattle.machine.specs.declared.Dims.{Dims}
 use Rattle.machine.specs.State.{Caches, caches, place, copyAt, withCopy, activePlace, statusPlace, trueFlag}
 use Rattle.machine.specs.Own.{home}
 use Rattle.machine.specs.Bus.{writtenBack}
+use Rattle.serial.specs.Taking.{valueEnd}
 use Rattle.serial.proofs.Decode.{copy-here, copy-else}
-
--- one past the largest 32-bit value
-abbrev pub valueEnd : ℕ
-valueEnd = 4294967296
 
 -- a held line or entry
 pub record LineFits (d : Dims) (p i : ℕ) (e : Entry) : Type 0 where

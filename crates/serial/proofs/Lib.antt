@@ -23,3 +23,4 @@ pub mod Under
 pub mod SoundCoherent
 pub mod FitSound
 pub mod Settles
+pub mod Fresh

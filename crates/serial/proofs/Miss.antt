@@ -30,8 +30,8 @@ use Rattle.theory.proofs.Updates.{AllTidy, SlotSet, entered, backs-up}
 use Rattle.theory.proofs.Bus.{Kind, reading, owning, granted, Opened, Held, misses, no-room, no-grant, Freed, empty, Granted}
 use Rattle.theory.proofs.Refine.{same-refl, freed-none}
 use Rattle.serial.specs.Shown.{byAccess}
+use Rattle.serial.specs.Taking.{valueEnd}
 use Rattle.serial.proofs.Decode.{stateOf, slotOf, decoded, seen, copy-here, copy-else}
-use Rattle.serial.proofs.Frame.{valueEnd}
 use Rattle.serial.proofs.Set.{Fit, Memory, memory-same, set-slot, entry-fit}
 use Rattle.serial.proofs.Ends.{Does, rollback-is}
 use Rattle.serial.proofs.Find.{slot-at}

@@ -25,8 +25,9 @@ use Rattle.theory.proofs.Moves.{At, at-trans}
 use Rattle.theory.proofs.Cache.{Slot, vacant, slotNormal, slotBackup, slotTentative, slotCopy, mainOn, backOn, tentOn, is-self, unbacked, main-tent, not-true}
 use Rattle.theory.proofs.Updates.{AllTidy, SlotSet, turned, backs-up}
 use Rattle.theory.proofs.Bus.{Begun, with-backup, without}
+use Rattle.serial.specs.Taking.{valueEnd}
 use Rattle.serial.proofs.Decode.{stateOf, slotOf, decoded, seen, copy-here, copy-else}
-use Rattle.serial.proofs.Frame.{valueEnd, EntryFits, Fits, fits-word}
+use Rattle.serial.proofs.Frame.{EntryFits, Fits, fits-word}
 use Rattle.serial.proofs.Set.{Fit, entryOn, Memory, memory-same, back-at, back-here, set-slot, entry-fit}
 use Rattle.serial.proofs.Codes.{dirty-code, tagged-fits}
 use Rattle.serial.proofs.Find.{entry-fits, slot-at, slot-normal-at}

@@ -20,8 +20,9 @@ use Rattle.machine.specs.Bus.{writtenBack}
 use Rattle.theory.proofs.View.{LineState, valid, reserved, dirty, wrote}
 use Rattle.theory.proofs.Cache.{vacant, blank}
 use Rattle.theory.proofs.Updates.{State, AllTidy, SlotSet, LineSet}
+use Rattle.serial.specs.Taking.{valueEnd}
 use Rattle.serial.proofs.Decode.{stateOf, slotOf, lineOf, decoded, read-here, read-else}
-use Rattle.serial.proofs.Frame.{valueEnd, LineFits, EntryFits, Fits, Copies, Words, Size, Frame, copies-set, words-set, words-back}
+use Rattle.serial.proofs.Frame.{LineFits, EntryFits, Fits, Copies, Words, Size, Frame, copies-set, words-set, words-back}
 
 -- what every state of a run satisfies, whatever its copies say of one another's words
 pub record Fit (d : Dims) (s : Caches) : Type 0 where

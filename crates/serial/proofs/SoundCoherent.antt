@@ -17,8 +17,9 @@ use Rattle.theory.proofs.View.{LineState, Back, bare, backup, none, regular, no
 use Rattle.theory.proofs.View
 use Rattle.theory.proofs.Moves.{Live}
 use Rattle.theory.proofs.Settled.{Coherent, agrees, ordered, coarse}
+use Rattle.serial.specs.Taking.{valueEnd}
 use Rattle.serial.proofs.Decode.{stateOf, seen}
-use Rattle.serial.proofs.Frame.{valueEnd, EntryFits}
+use Rattle.serial.proofs.Frame.{EntryFits}
 use Rattle.serial.proofs.Set.{Fit}
 use Rattle.serial.proofs.Codes.{above-code, dirty-code, tagged-fits}
 use Rattle.serial.proofs.Find.{entry-fits}

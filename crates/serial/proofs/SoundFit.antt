@@ -18,8 +18,9 @@ use Rattle.machine.specs.Own.{home}
 use Rattle.machine.specs.Sound.{Sound, Copy, Tentative}
 use Rattle.theory.proofs.Cache.{vacant, blank, filled, is-self, is-true, mainOn, backOn, tentOn, regOn, Tidy, not-true}
 use Rattle.theory.proofs.Updates.{AllTidy}
+use Rattle.serial.specs.Taking.{valueEnd}
 use Rattle.serial.proofs.Decode.{stateOf, slotBy, slotOf, lineOf, decoded, read-at, read-out}
-use Rattle.serial.proofs.Frame.{valueEnd, LineFits, EntryFits, Fits, Size, Frame}
+use Rattle.serial.proofs.Frame.{LineFits, EntryFits, Fits, Size, Frame}
 use Rattle.serial.proofs.Set.{Fit}
 use Rattle.serial.proofs.Sizes.{size-of}
 use Rattle.serial.proofs.Find.{home-in}

@@ -20,8 +20,8 @@ use Rattle.theory.proofs.View.{View}
 use Rattle.theory.proofs.Bus.{Opened, Starts, not-normal, opens, dead, isRegular}
 use Rattle.theory.proofs.Refine.{same-refl}
 use Rattle.serial.specs.Shown.{byAccess, shows}
+use Rattle.serial.specs.Taking.{valueEnd}
 use Rattle.serial.proofs.Decode.{seen}
-use Rattle.serial.proofs.Frame.{valueEnd}
 use Rattle.serial.proofs.Set.{Fit}
 use Rattle.serial.proofs.Ends.{Does, begun-fit, begun-is, status-at, interrupt-does, validate-does, commit-does, abort-does}
 use Rattle.serial.proofs.Find.{is-none, found-tag, found-word, has-tentative, no-normal, no-tentative}

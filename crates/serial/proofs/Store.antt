@@ -31,8 +31,9 @@ use Rattle.theory.proofs.Agree.{rolledBack-tentative}
 use Rattle.theory.proofs.Bus.{Step, store-hit, store-through, store-miss, Plainly, owning, isNormal, Unheld, un-tent, re-tent, Unnormal, un-norm, re-norm}
 use Rattle.theory.proofs.Refine.{same-refl, freed-none}
 use Rattle.serial.specs.Shown.{byStore}
+use Rattle.serial.specs.Taking.{valueEnd}
 use Rattle.serial.proofs.Decode.{stateOf, slotOf, decoded, seen}
-use Rattle.serial.proofs.Frame.{valueEnd, LineFits, Fits, fits-word}
+use Rattle.serial.proofs.Frame.{LineFits, Fits, fits-word}
 use Rattle.serial.proofs.Set.{Fit, entryOn, Memory, memory-same, memory-set, back-at, back-here, set-slot, entry-fit}
 use Rattle.serial.proofs.Ends.{Does, rollback-fit, rollback-is}
 use Rattle.serial.proofs.Codes.{both-left, above-code}

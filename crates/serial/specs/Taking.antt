@@ -1,0 +1,43 @@
+-- Steps that a machine took, none refused, and all the events that they show.
+use mathlib.Core.Path.{_≡_}
+use mathlib.Core.List.{List, [], _∷_, _++_}
+use Prim.Native.Nat.{ℕ, _<_}
+use lib.ListN.{getD}
+use Rattle.entry.specs.declared.answer.Answer.{Answer}
+use Rattle.entry.specs.Answer.{refusalNumber}
+use Rattle.machine.specs.declared.Machine.{Machine}
+use Rattle.machine.specs.Refusals.{accepted}
+use Rattle.machine.specs.Step.{stepOf}
+use Rattle.theory.specs.Event.{Event}
+use Rattle.serial.specs.Shown.{shows}
+
+-- "each an unsigned 32-bit value": what the types of the code say of a memory, and of a step's value
+abbrev pub valueEnd : ℕ
+valueEnd = 4294967296
+
+abbrev pub Values : List ℕ → Type 0
+Values l = (i : ℕ) → getD l i 0 < valueEnd
+
+-- a step, and what it answered
+pub record Did : Type 0 where
+  pub op : ℕ
+  pub core : ℕ
+  pub word : ℕ
+  pub value : ℕ
+  pub answer : Answer
+
+abbrev pub did : ℕ → ℕ → ℕ → ℕ → Answer → Did
+did op core word value answer = record { op = op; core = core; word = word; value = value; answer = answer }
+
+abbrev pub answerOf : Machine → ℕ → ℕ → ℕ → ℕ → Answer
+answerOf m op core word value = stepOf m op core word value .told .answer
+
+-- the machine of demand 2 took these steps one after the other, and refused none
+pub data Took : Machine → List Did → Machine → Type 0 where
+  nothing : {m : Machine} → Took m [] m
+  then : {m m′ : Machine} {ds : List Did} (op core word value : ℕ) → value < valueEnd → refusalNumber (answerOf m op core word value) ≡ accepted
+      → Took (stepOf m op core word value .machine) ds m′ → Took m (did op core word value (answerOf m op core word value) ∷ ds) m′
+
+unfoldable pub events : List Did → List Event
+events [] = []
+events (x ∷ ds) = shows (x .op) (x .core) (x .word) (x .value) (x .answer) ++ events ds
