@@ -24,3 +24,5 @@ pub mod SoundCoherent
 pub mod FitSound
 pub mod Settles
 pub mod Fresh
+pub mod Kept
+pub mod Demand3

@@ -9,6 +9,7 @@ use Rattle.machine.specs.declared.Machine.{Machine}
 use Rattle.machine.specs.Refusals.{accepted}
 use Rattle.machine.specs.Step.{stepOf}
 use Rattle.theory.specs.Event.{Event}
+use Rattle.theory.specs.Plain.{Plain, unlogged}
 use Rattle.serial.specs.Shown.{shows}
 
 -- "each an unsigned 32-bit value": what the types of the code say of a memory, and of a step's value
@@ -17,6 +18,10 @@ valueEnd = 4294967296
 
 abbrev pub Values : List ℕ → Type 0
 Values l = (i : ℕ) → getD l i 0 < valueEnd
+
+-- the plain machine with the memory that the caller gave
+abbrev pub start : List ℕ → Plain
+start memory = unlogged (λ w. getD memory w 0)
 
 -- a step, and what it answered
 pub record Did : Type 0 where

@@ -1,0 +1,128 @@
+-- DEMAND 3 and opacity: from a fresh machine, through any steps that the machine of demand 2 took.
+use mathlib.Core.Path.{_≡_, refl, sym, _∙_, ap, subst, subst⁻¹, fun-ext}
+use mathlib.Core.Bool.{Bool, true, false}
+use mathlib.Core.List.{List, [], _∷_}
+use Prim.Native.Nat.{ℕ, _<_}
+use lib.Dec.{ltb}
+use lib.ListN.{getD}
+use borrow.Author.Tests.{lt-ltb}
+use Rattle.laws.specs.Choice.{pick}
+use Rattle.entry.specs.declared.answer.Answer.{Answer}
+use Rattle.entry.specs.declared.answer.Answer.the-variants.{Value}
+use Rattle.machine.specs.declared.Dims.{Dims}
+use Rattle.machine.specs.declared.Machine.{Machine}
+use Rattle.machine.specs.declared.Stepped.{Stepped}
+use Rattle.machine.specs.State.{Caches, cachesOf, machineOf}
+use Rattle.machine.specs.Refusals.{accepted}
+use Rattle.machine.specs.Making.{fresh, makeOf}
+use Rattle.machine.specs.Settled.{settledIn}
+use Rattle.machine.specs.Sound.{Sound}
+use Rattle.machine.specs.Step.{takeStep, steppedOf, settledOf, stepOf}
+use Rattle.theory.specs.Event.{Event}
+use Rattle.theory.specs.Plain.{Plain, Serial, Opaque, after, unlogged}
+use Rattle.theory.proofs.Settled.{settled, Coherent, coherent→agree}
+use Rattle.theory.proofs.Bus.{Step}
+use Rattle.theory.proofs.History
+use Rattle.theory.proofs.History.{History, history-serial}
+use Rattle.sound.proofs.Exact.{sound-true}
+use Rattle.serial.specs.Shown.{shows}
+use Rattle.serial.specs.Taking.{Values, start, Did, did, Took, nothing, then, answerOf, events}
+use Rattle.serial.proofs.Decode.{seen}
+use Rattle.serial.proofs.Set.{Fit}
+use Rattle.serial.proofs.Requests.{beyond}
+use Rattle.serial.proofs.Steps.{taken, step-does}
+use Rattle.serial.proofs.SoundCoherent.{seen-coarse}
+use Rattle.serial.proofs.FitSound.{fit-sound}
+use Rattle.serial.proofs.Settles.{settled-in}
+use Rattle.serial.proofs.Fresh.{fresh-fit, fresh-bare, fresh-memory, made-of}
+use Rattle.serial.proofs.Kept.{Stepping, stepping}
+
+-- where the steps lead
+pub record Reached (d : Dims) (s : Caches) (ds : List Did) (m′ : Machine) : Type 0 where
+  pub state : Caches
+  pub is : m′ ≡ machineOf d state
+  pub fit : Fit d state
+  pub history : History (d .processors) (seen d s) (events ds) (seen d state)
+
+reach : {m m′ : Machine} {ds : List Did} (d : Dims) (s : Caches) → m ≡ machineOf d s → Fit d s → Took m ds m′ → Reached d s ds m′
+unfolding events
+reach d s e F nothing = record { state = s; is = e; fit = F; history = History.nothing }
+reach {m} {m′} d s e F (then {ds = ds} op p w v lv r t) = from (reach d (takeStep d op p w v s .after) (next (stepping m op p w v r)) G t)
+  where
+    ok : Stepping (machineOf d s) op p w v
+    ok = subst (λ (x : Machine). Stepping x op p w v) e (stepping m op p w v r)
+
+    next : Stepping m op p w v → stepOf m op p w v .machine ≡ machineOf d (takeStep d op p w v s .after)
+    next x = ap (λ (y : Machine). stepOf y op p w v .machine) e ∙ ap (λ (y : Stepped). y .machine) (ok .is)
+
+    answer : answerOf m op p w v ≡ takeStep d op p w v s .told .answer
+    answer = ap (λ (y : Machine). stepOf y op p w v .told .answer) e ∙ ap (λ (y : Stepped). y .told .answer) (ok .is)
+
+    G : Fit d (takeStep d op p w v s .after)
+    G = step-does F op p w v (taken d op p w (ok .refusal)) lv .fit
+
+    from : Reached d (takeStep d op p w v s .after) ds m′ → Reached d s (did op p w v (answerOf m op p w v) ∷ ds) m′
+    from x = record {
+      state = x .state;
+      is = x .is;
+      fit = x .fit;
+      history = History.then
+          (subst⁻¹ (λ (a : Answer). Step (d .processors) (seen d s) (seen d (takeStep d op p w v s .after)) (shows op p w v a)) answer
+          (step-does F op p w v (taken d op p w (ok .refusal)) lv .step)) (beyond d (takeStep d op p w v s .after)) (x .history);
+    }
+
+-- all that is known of where the steps lead
+pub record Agreed (d : Dims) (memory : List ℕ) (ds : List Did) (m : Machine) : Type 0 where
+  pub serial : Serial (events ds) (start memory)
+  pub opaque-reads : Opaque (events ds) (start memory)
+  pub dims : m .dims ≡ d
+  pub sound : Sound (m .dims) (cachesOf m)
+  pub values : Values (m .memory)
+  pub settled-value : (w : ℕ) → settledIn (m .dims) w (cachesOf m) ≡ after (events ds) (start memory) .val w
+
+module _ (d : Dims) (memory : List ℕ) (values : Values memory) (ok : makeOf d memory .refusal ≡ accepted) (ds : List Did) (m : Machine)
+    (t : Took (makeOf d memory .machine) ds m) where
+  pub agreed : Agreed d memory ds m
+  agreed =
+      let o = made-of d memory ok in
+      let F = fresh-fit d memory (o .dims) (o .long) values in
+      let r = reach d (fresh d memory) (o .machine) F t in
+      let h = subst (Known (events ds) (r .state)) (fun-ext (fresh-memory d memory (o .dims) (o .long) values))
+      (history-serial (d .processors) (fresh-bare d memory (o .dims) (o .long) values) (r .history)) in
+      let A = coherent→agree (d .processors) (h .3) (seen-coarse (r .fit)) in
+      subst⁻¹ (Agreed d memory ds) (r .is)
+      (record {
+        serial = h .0;
+        opaque-reads = h .1;
+        dims = refl;
+        sound = fit-sound (r .fit) (h .3) (o .dims);
+        values = r .fit .frame .memory .small;
+        settled-value = λ w. settled-in (r .fit) A w ∙ h .2 w;
+      })
+    where
+      -- what the theory says of the start memory M
+      Known : List Event → Caches → (ℕ → ℕ) → Type 0
+      Known es s M =
+          Serial es (unlogged M) × Opaque es (unlogged M) × ((w : ℕ) → settled (d .processors) (seen d s) w ≡ after es (unlogged M) .val w)
+          × Coherent (d .processors) (seen d s)
+
+  -- Every LOAD is answered by the plain memory at its place, the reads of every transaction that commits replay on it whole at the commit, and
+  -- at the end each word's settled value is the plain memory's.
+  pub demand-3 : Serial (events ds) (start memory) × ((w : ℕ) → w < d .words → settledOf m w ≡ Value (after (events ds) (start memory) .val w))
+  unfolding settledOf
+  demand-3 = (a .serial, value)
+    where
+      a : Agreed d memory ds m
+      a = agreed
+
+      value : (w : ℕ) → w < d .words → settledOf m w ≡ Value (after (events ds) (start memory) .val w)
+      value w l =
+          let l′ : w < m .dims .words = subst⁻¹ (λ (z : Dims). w < z .words) (a .dims) l in
+          rw (sound-true (m .dims) (cachesOf m) (a .sound), lt-ltb w (m .dims .words) l′) (ap Value (a .settled-value w))
+
+  -- Every VALUE that a transaction was answered, also one that later aborts or never ends, with its own earlier writes, is the plain memory's at that step.
+  pub opacity : Opaque (events ds) (start memory)
+  opacity = agreed .opaque-reads
+
+  pub took-sound : Sound (m .dims) (cachesOf m)
+  took-sound = agreed .sound
