@@ -26,3 +26,4 @@ pub mod Settles
 pub mod Fresh
 pub mod Kept
 pub mod Demand3
+pub mod Bound
