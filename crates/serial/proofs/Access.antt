@@ -21,11 +21,11 @@ use Rattle.machine.specs.Own.{home}
 use Rattle.machine.specs.Rollback.{rollback}
 use Rattle.machine.specs.Bus.{snoop, refuses}
 use Rattle.machine.specs.Transact.{finish, busy, hit}
-use Rattle.theory.proofs.View.{valid, reserved, dirty, Back, Copy, tentative, above, View}
-use Rattle.theory.proofs.Moves.{At}
+use Rattle.theory.specs.View.{valid, reserved, dirty, Back, Copy, tentative, above, View}
+use Rattle.theory.specs.Change.{At}
 use Rattle.theory.proofs.Cache.{Slot, slotTentative, slotCopy, is-self, backOf, back-is, Line}
 use Rattle.theory.proofs.Updates.{AllTidy, SlotSet, turned}
-use Rattle.theory.proofs.Bus.{Kind, reading, owning, Step, gets, puts, fails, Opened, Held, has-it, raises, Denied, no-raise, enough, Granted}
+use Rattle.theory.specs.Bus.{Kind, reading, owning, Step, gets, puts, fails, Opened, Held, has-it, raises, Denied, no-raise, enough, Granted}
 use Rattle.theory.proofs.Refine.{same-refl}
 use Rattle.serial.specs.Shown.{byAccess}
 use Rattle.serial.specs.Taking.{valueEnd}

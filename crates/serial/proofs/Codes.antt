@@ -10,7 +10,7 @@ use Rattle.laws.specs.Choice.{pick, both, either}
 use Rattle.entry.specs.declared.Entry.{Entry}
 use Rattle.entry.specs.Numbers.{INVALID, RESERVED, DIRTY, NORMAL, BACKUP, TENTATIVE}
 use Rattle.machine.specs.declared.Dims.{Dims}
-use Rattle.theory.proofs.View.{LineState, valid, reserved, dirty, above, isDirty}
+use Rattle.theory.specs.View.{LineState, valid, reserved, dirty, above, isDirty}
 use Rattle.theory.proofs.Cache.{Slot, vacant, slotNormal, slotBackup, slotTentative, Line, blank, filled}
 use Rattle.serial.proofs.Decode.{stateOf, slotBy, slotOf, lineOf}
 use Rattle.serial.proofs.Frame.{EntryFits, Fits}

@@ -16,7 +16,7 @@ use Rattle.entry.specs.Packing.{pack, unpack, InRange, unpack-pack}
 use Rattle.machine.specs.declared.Dims.{Dims}
 use Rattle.machine.specs.State.{Caches, place, copyAt, withCopy, wordAt, TACTIVE, TSTATUS}
 use Rattle.machine.specs.Own.{home}
-use Rattle.theory.proofs.View.{LineState, valid, reserved, dirty, View}
+use Rattle.theory.specs.View.{LineState, valid, reserved, dirty, View}
 use Rattle.theory.proofs.Cache.{Slot, vacant, slotNormal, slotBackup, slotTentative, Line, blank, filled}
 use Rattle.theory.proofs.Updates.{State, view}
 

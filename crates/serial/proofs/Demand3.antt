@@ -21,7 +21,7 @@ use Rattle.machine.specs.Step.{takeStep, steppedOf, settledOf, stepOf}
 use Rattle.theory.specs.Event.{Event}
 use Rattle.theory.specs.Plain.{Plain, Serial, Opaque, after, unlogged}
 use Rattle.theory.proofs.Settled.{settled, Coherent, coherent→agree}
-use Rattle.theory.proofs.Bus.{Step}
+use Rattle.theory.specs.Bus.{Step}
 use Rattle.theory.proofs.History
 use Rattle.theory.proofs.History.{History, history-serial}
 use Rattle.sound.proofs.Exact.{sound-true}

@@ -19,12 +19,12 @@ use Rattle.machine.specs.Own.{home}
 use Rattle.machine.specs.Rollback.{overEntries, rolledEntries, committedEntries, rollback, begun, ended}
 use Rattle.machine.specs.Ends
 use Rattle.theory.specs.Event.{Event}
-use Rattle.theory.proofs.View.{View}
-use Rattle.theory.proofs.View
-use Rattle.theory.proofs.Moves.{OnlyProcessor, same}
+use Rattle.theory.specs.View.{View}
+use Rattle.theory.specs.View
+use Rattle.theory.specs.Change.{OnlyProcessor, same}
 use Rattle.theory.proofs.Cache.{Slot, vacant, slotRollback, slotCommit}
 use Rattle.theory.proofs.Updates.{AllTidy, SlotMap, rolled-back, slots-committed, flagged}
-use Rattle.theory.proofs.Bus.{RolledBack, Woken, Ended, Step, commit-yes, over, aborts, validate-yes, interrupts}
+use Rattle.theory.specs.Bus.{RolledBack, Woken, Ended, Step, commit-yes, over, aborts, validate-yes, interrupts}
 use Rattle.theory.proofs.Refine.{same-refl}
 use Rattle.serial.specs.Shown.{byEnd}
 use Rattle.serial.proofs.Decode.{slotOf, decoded, seen, read-at, read-same}

@@ -16,10 +16,10 @@ use Rattle.entry.specs.Packing.{unpack-range, noEntry}
 use Rattle.machine.specs.declared.Dims.{Dims}
 use Rattle.machine.specs.State.{Caches, copyAt, lineAt, entryAt, place}
 use Rattle.machine.specs.Own.{home, holds, hasEntry, findEntry}
-use Rattle.theory.proofs.View.{Back, Copy, none, regular, normal, tentative, isTentative}
+use Rattle.theory.specs.View.{Back, Copy, none, regular, normal, tentative, isTentative}
 use Rattle.theory.proofs.Cache.{vacant, slotNormal, slotTentative, blank, filled, regOn, is-self, is-true, looks, in-line, back-is, backOf, Slot, Line}
 use Rattle.theory.proofs.Slots.{look-normal, look-tentative, look-norm, look-tent, look-reg}
-use Rattle.theory.proofs.Bus.{isNormal, isRegular}
+use Rattle.theory.specs.Bus.{isNormal, isRegular}
 use Rattle.serial.proofs.Decode.{stateOf, slotOf, lineOf, decoded, seen, read-at}
 use Rattle.serial.proofs.Frame.{LineFits, EntryFits, Fits, Size}
 use Rattle.serial.proofs.Set.{Fit}

@@ -18,8 +18,8 @@ use Rattle.machine.specs.Own.{home, holds}
 use Rattle.machine.specs.Making.{dimsRefusal}
 use Rattle.machine.specs.Refusals.{accepted}
 use Rattle.machine.specs.Sound.{Sound, Held, Copy, Tentative}
-use Rattle.theory.proofs.View.{LineState, Back, backup, none, regular, normal, tentative, above, isDirty, has, exclusive, isTentative, below}
-use Rattle.theory.proofs.View
+use Rattle.theory.specs.View.{LineState, Back, backup, none, regular, normal, tentative, above, isDirty, has, exclusive, isTentative, below}
+use Rattle.theory.specs.View
 use Rattle.theory.proofs.OneWord.{below-up}
 use Rattle.theory.proofs.Cache.{filled, is-self, mainOn, backOn, tentOn, regOn, main-tent}
 use Rattle.theory.proofs.Settled.{Coherent, agrees, ordered}

@@ -21,7 +21,7 @@ use Rattle.machine.specs.Own.{home}
 use Rattle.machine.specs.Refusals.{accepted, badMemory}
 use Rattle.machine.specs.Making.{dimsRefusal, makeRefusal, padded, freshFlags, fresh, smallest, made, makeOf}
 use Rattle.machine.specs.Sound.{Sound}
-use Rattle.theory.proofs.View.{none}
+use Rattle.theory.specs.View.{none}
 use Rattle.theory.proofs.Cache.{vacant, blank, Tidy, nowhere, looks}
 use Rattle.theory.proofs.Settled.{Coherent, Bare, bare-inv, agree→coherent}
 use Rattle.serial.specs.Taking.{valueEnd, Values}

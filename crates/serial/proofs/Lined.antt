@@ -17,13 +17,13 @@ use Rattle.machine.specs.State.{Caches, place, copyAt, lineAt, entryAt, wordAt,
 use Rattle.machine.specs.Own.{home, holds}
 use Rattle.machine.specs.Bus.{writes, writtenBack, clearLine}
 use Rattle.machine.specs.Transact.{dropLine}
-use Rattle.theory.proofs.View.{LineState, Copy, none, regular, View}
-use Rattle.theory.proofs.Moves.{At, Same}
+use Rattle.theory.specs.View.{LineState, Copy, none, regular, View}
+use Rattle.theory.specs.Change.{At, Same}
 use Rattle.theory.proofs.Cache.{Slot, Line, vacant, blank, filled, mainOn, look}
 use Rattle.theory.proofs.Slots.{look-none}
 use Rattle.theory.proofs.Lines.{lineIs, line-main, look-line}
 use Rattle.theory.proofs.Updates.{State, AllTidy, LineSet, lined, line-in, line-out}
-use Rattle.theory.proofs.Bus.{Freed, empty, reg-out, Unregular, un-reg, re-reg, isRegular}
+use Rattle.theory.specs.Bus.{Freed, empty, reg-out, Unregular, un-reg, re-reg, isRegular}
 use Rattle.theory.proofs.Refine.{at-still, same-refl}
 use Rattle.serial.proofs.Decode.{stateOf, slotOf, lineOf, decoded, seen, read-same, copy-here}
 use Rattle.serial.proofs.Frame.{LineFits, Fits, Size, line-word}

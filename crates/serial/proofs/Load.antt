@@ -18,12 +18,12 @@ use Rattle.machine.specs.Own.{home, holds, findEntry}
 use Rattle.machine.specs.Rollback.{rollback}
 use Rattle.machine.specs.Bus.{clearLine, plainRequest}
 use Rattle.machine.specs.Load
-use Rattle.theory.proofs.View.{LineState, valid, Back, bare, backup, Copy, none, regular, normal, tentative, above, isTentative, rolledBack}
+use Rattle.theory.specs.View.{LineState, valid, Back, bare, backup, Copy, none, regular, normal, tentative, above, isTentative, rolledBack}
 use Rattle.theory.proofs.Cache.{blank, filled, mainOn}
 use Rattle.theory.proofs.Slots.{look-none}
 use Rattle.theory.proofs.Lines.{lineIs}
 use Rattle.theory.proofs.Agree.{rolledBack-tentative}
-use Rattle.theory.proofs.Bus.{Step, load-hit, load-back, load-miss, load-bare, Fetched, Plainly, reading, isRegular, isNormal, RolledBack}
+use Rattle.theory.specs.Bus.{Step, load-hit, load-back, load-miss, load-bare, Fetched, Plainly, reading, isRegular, isNormal, RolledBack}
 use Rattle.theory.proofs.Refine.{same-refl, freed-none}
 use Rattle.serial.specs.Shown.{byLoad}
 use Rattle.serial.proofs.Decode.{stateOf, lineOf, decoded, seen}

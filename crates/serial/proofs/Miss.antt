@@ -22,12 +22,13 @@ use Rattle.machine.specs.Own.{home, freeSlot}
 use Rattle.machine.specs.Rollback.{rollback}
 use Rattle.machine.specs.Bus.{writes, clearEntry, snoop, refuses}
 use Rattle.machine.specs.Transact.{requestOf, finish, busy, clearBackup, fillBackup, fill, request, missAt, miss}
-use Rattle.theory.proofs.View.{Back, bare, backup, none, tentative, View}
-use Rattle.theory.proofs.Moves.{At, at-trans}
+use Rattle.theory.specs.View.{Back, bare, backup, none, tentative, View}
+use Rattle.theory.specs.Change.{At}
+use Rattle.theory.proofs.Moves.{at-trans}
 use Rattle.theory.proofs.Cache.{vacant, slotBackup, slotTentative, backOn}
 use Rattle.theory.proofs.Slots.{none-backs}
 use Rattle.theory.proofs.Updates.{AllTidy, SlotSet, entered, backs-up}
-use Rattle.theory.proofs.Bus.{Kind, reading, owning, granted, Opened, Held, misses, no-room, no-grant, Freed, empty, Granted}
+use Rattle.theory.specs.Bus.{Kind, reading, owning, granted, Opened, Held, misses, no-room, no-grant, Freed, empty, Granted}
 use Rattle.theory.proofs.Refine.{same-refl, freed-none}
 use Rattle.serial.specs.Shown.{byAccess}
 use Rattle.serial.specs.Taking.{valueEnd}

@@ -20,11 +20,12 @@ use Rattle.machine.specs.State.{Caches, caches, place, entryAt, withCopy, withE
 use Rattle.machine.specs.Own.{home, freeSlot}
 use Rattle.machine.specs.Bus.{writes, writtenBack, clearEntry}
 use Rattle.machine.specs.Transact.{openNormal}
-use Rattle.theory.proofs.View.{LineState, valid, reserved, dirty, bare, backup, normal, tentative, isDirty, dried, wrote}
-use Rattle.theory.proofs.Moves.{At, at-trans}
+use Rattle.theory.specs.View.{LineState, valid, reserved, dirty, bare, backup, normal, tentative, isDirty, dried, wrote}
+use Rattle.theory.specs.Change.{At}
+use Rattle.theory.proofs.Moves.{at-trans}
 use Rattle.theory.proofs.Cache.{Slot, vacant, slotNormal, slotBackup, slotTentative, slotCopy, mainOn, backOn, tentOn, is-self, unbacked, main-tent, not-true}
 use Rattle.theory.proofs.Updates.{AllTidy, SlotSet, turned, backs-up}
-use Rattle.theory.proofs.Bus.{Begun, with-backup, without}
+use Rattle.theory.specs.Bus.{Begun, with-backup, without}
 use Rattle.serial.specs.Taking.{valueEnd}
 use Rattle.serial.proofs.Decode.{stateOf, slotOf, decoded, seen, copy-here, copy-else}
 use Rattle.serial.proofs.Frame.{EntryFits, Fits, fits-word}

@@ -18,9 +18,9 @@ use Rattle.machine.specs.State.{Caches, entryAt, lineAt, place}
 use Rattle.machine.specs.Own.{findEntry}
 use Rattle.machine.specs.Rollback.{rolledEntries, rollback}
 use Rattle.machine.specs.Bus.{opposes, otherOpposes, firstOpposing, refuses, rollOne, rollOthers}
-use Rattle.theory.proofs.View.{Copy, none, regular, normal, tentative, isTentative, View}
-use Rattle.theory.proofs.Bus.{Each, start, and-then, RollIf, spared, rolls-back, Kind, reading, owning, tentativeAbove, Busy, busy}
-use Rattle.theory.proofs.Bus
+use Rattle.theory.specs.View.{Copy, none, regular, normal, tentative, isTentative, View}
+use Rattle.theory.specs.Bus.{Each, start, and-then, RollIf, spared, rolls-back, Kind, reading, owning, tentativeAbove, Busy, busy}
+use Rattle.theory.specs.Bus
 use Rattle.theory.proofs.Refine.{same-refl, refuses-none}
 use Rattle.serial.proofs.Decode.{seen}
 use Rattle.serial.proofs.Frame.{EntryFits}

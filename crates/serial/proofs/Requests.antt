@@ -17,12 +17,12 @@ use Rattle.machine.specs.declared.Dims.{Dims}
 use Rattle.machine.specs.State.{Caches, place, lineAt, entryAt}
 use Rattle.machine.specs.Own.{home, holds, hasLive, liveEntry}
 use Rattle.machine.specs.Bus.{writtenBack, snoopLine, snoopEntry, snoopOne, snoop, refuses, rollOthers, plainRequest}
-use Rattle.theory.proofs.View.{Copy, none, regular, normal, tentative, View}
+use Rattle.theory.specs.View.{Copy, none, regular, normal, tentative, View}
 use Rattle.theory.proofs.Cache.{vacant, blank, mainOn, is-self, nowhere, looks}
 use Rattle.theory.proofs.Lines.{line-main}
 use Rattle.theory.proofs.Slots.{look-norm, look-tent}
-use Rattle.theory.proofs.Bus.{Each, Snooped, own, other, Kind, reading, owning, snoops, supplied, isNormal, Plainly, Granted}
-use Rattle.theory.proofs.Bus
+use Rattle.theory.specs.Bus.{Each, Snooped, own, other, Kind, reading, owning, snoops, supplied, isNormal, Plainly, Granted}
+use Rattle.theory.specs.Bus
 use Rattle.theory.proofs.Refine.{same-refl, cleared, refuses-roll, refuses-none}
 use Rattle.serial.proofs.Decode.{slotOf, lineOf, decoded, seen, read-out}
 use Rattle.serial.proofs.Frame.{EntryFits}

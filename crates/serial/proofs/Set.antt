@@ -17,7 +17,7 @@ use Rattle.machine.specs.declared.Dims.{Dims}
 use Rattle.machine.specs.State.{Caches, caches, copyAt, withCopy, wordAt}
 use Rattle.machine.specs.Own.{home}
 use Rattle.machine.specs.Bus.{writtenBack}
-use Rattle.theory.proofs.View.{LineState, valid, reserved, dirty, wrote}
+use Rattle.theory.specs.View.{LineState, valid, reserved, dirty, wrote}
 use Rattle.theory.proofs.Cache.{vacant, blank}
 use Rattle.theory.proofs.Updates.{State, AllTidy, SlotSet, LineSet}
 use Rattle.serial.specs.Taking.{valueEnd}

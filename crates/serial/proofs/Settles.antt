@@ -16,11 +16,11 @@ use Rattle.machine.specs.State.{Caches, place, lineAt, entryAt, wordAt}
 use Rattle.machine.specs.Own.{home, holds}
 use Rattle.machine.specs.Settled.{isSettling, hasSettling, settlingEntry, settles, settler, settledIn}
 use Rattle.machine.specs.Settled
-use Rattle.theory.proofs.View.{LineState, Back, bare, backup, Copy, none, regular, normal, tentative, isDirty, owns, View}
+use Rattle.theory.specs.View.{LineState, Back, bare, backup, Copy, none, regular, normal, tentative, isDirty, owns, View}
 use Rattle.theory.proofs.Slots.{look-norm}
 use Rattle.theory.proofs.Agree.{Agree}
 use Rattle.theory.proofs.Settled.{baseData, owns-data}
-use Rattle.theory.proofs.Bus.{isRegular}
+use Rattle.theory.specs.Bus.{isRegular}
 use Rattle.serial.proofs.Decode.{stateOf, decoded, seen}
 use Rattle.serial.proofs.Set.{Fit}
 use Rattle.serial.proofs.Codes.{both-true, both-left, both-right, either-left, either-right, dirty-code, Is, slot-normal}

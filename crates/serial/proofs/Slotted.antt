@@ -18,10 +18,10 @@ use Rattle.machine.specs.declared.Dims.{Dims}
 use Rattle.machine.specs.State.{Caches, place, entryAt, wordAt}
 use Rattle.machine.specs.Own.{home, isFree, lowest, freeSlot}
 use Rattle.machine.specs.Bus.{writtenBack, clearEntry}
-use Rattle.theory.proofs.View.{wrote}
+use Rattle.theory.specs.View.{wrote}
 use Rattle.theory.proofs.Cache.{vacant}
 use Rattle.theory.proofs.Updates.{AllTidy, SlotSet, normal-out, backup-out, unmoved}
-use Rattle.theory.proofs.Bus.{Freed, empty}
+use Rattle.theory.specs.Bus.{Freed, empty}
 use Rattle.serial.proofs.Decode.{stateOf, slotOf, decoded, seen, copy-here, copy-else}
 use Rattle.serial.proofs.Frame.{EntryFits, Fits, fits-word}
 use Rattle.serial.proofs.Set.{Fit, entryOn, Memory, back-at, back-here, set-slot, entry-fit}

@@ -19,14 +19,14 @@ use Rattle.machine.specs.declared.Dims.{Dims}
 use Rattle.machine.specs.State.{Caches, caches, place, lineAt, entryAt, withCopy, wordAt}
 use Rattle.machine.specs.Own.{home, holds, hasLive, liveEntry}
 use Rattle.machine.specs.Bus.{writtenBack, snoopLine, snoopEntry, snoopOne, snoop}
-use Rattle.theory.proofs.View.{LineState, valid, reserved, dirty, Copy, none, regular, normal, tentative, above, wrote, isTentative, View}
-use Rattle.theory.proofs.Moves.{At, Same}
+use Rattle.theory.specs.View.{LineState, valid, reserved, dirty, Copy, none, regular, normal, tentative, above, wrote, isTentative, View}
+use Rattle.theory.specs.Change.{At, Same}
 use Rattle.theory.proofs.Cache.{Slot, vacant, slotNormal, slotTentative, slotCopy, filled, mainOn, is-self, back-is, not-true as isnt}
 use Rattle.theory.proofs.Slots.{look-none}
 use Rattle.theory.proofs.Lines.{lineIs, line-main}
 use Rattle.theory.proofs.Updates.{AllTidy, SlotSet, LineSet, lined, line-in, line-out, turned, normal-gone, unmoved}
-use Rattle.theory.proofs.Bus.{Each, Snooped, own, other, Kind, reading, owning, snoops, supplied, tentativeAbove}
-use Rattle.theory.proofs.Bus
+use Rattle.theory.specs.Bus.{Each, Snooped, own, other, Kind, reading, owning, snoops, supplied, tentativeAbove}
+use Rattle.theory.specs.Bus
 use Rattle.theory.proofs.Refine.{same-refl}
 use Rattle.serial.proofs.Decode.{stateOf, slotOf, lineOf, decoded, seen, copy-else}
 use Rattle.serial.proofs.Frame.{LineFits, EntryFits, Fits, fits-word, line-word}

@@ -13,9 +13,9 @@ use Rattle.entry.specs.Packing.{InRange, unpack-range}
 use Rattle.machine.specs.declared.Dims.{Dims}
 use Rattle.machine.specs.State.{Caches, place, lineAt, entryAt, wordAt}
 use Rattle.machine.specs.Sound.{Sound, Copy}
-use Rattle.theory.proofs.View.{LineState, Back, bare, backup, none, regular, normal, tentative, above, isDirty, has, exclusive, isTentative}
-use Rattle.theory.proofs.View
-use Rattle.theory.proofs.Moves.{Live}
+use Rattle.theory.specs.View.{LineState, Back, bare, backup, none, regular, normal, tentative, above, isDirty, has, exclusive, isTentative}
+use Rattle.theory.specs.View
+use Rattle.theory.specs.Change.{Live}
 use Rattle.theory.proofs.Settled.{Coherent, agrees, ordered, coarse}
 use Rattle.serial.specs.Taking.{valueEnd}
 use Rattle.serial.proofs.Decode.{stateOf, seen}

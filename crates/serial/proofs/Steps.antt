@@ -16,8 +16,8 @@ use Rattle.machine.specs.Rollback.{begun}
 use Rattle.machine.specs.Refusals.{accepted, noSuchStep, noSuchProcessor, noSuchWord}
 use Rattle.machine.specs.Transact.{dropLine, hit, openNormal, miss, seek, transact}
 use Rattle.machine.specs.Step.{stepRefusal, takeStep}
-use Rattle.theory.proofs.View.{View}
-use Rattle.theory.proofs.Bus.{Opened, Starts, not-normal, opens, dead, isRegular}
+use Rattle.theory.specs.View.{View}
+use Rattle.theory.specs.Bus.{Opened, Starts, not-normal, opens, dead, isRegular}
 use Rattle.theory.proofs.Refine.{same-refl}
 use Rattle.serial.specs.Shown.{byAccess, shows}
 use Rattle.serial.specs.Taking.{valueEnd}

@@ -21,14 +21,14 @@ use Rattle.machine.specs.Own.{home, holds, findEntry}
 use Rattle.machine.specs.Rollback.{rollback}
 use Rattle.machine.specs.Bus.{writes, writtenBack, clearLine, clearEntry, plainRequest}
 use Rattle.machine.specs.Store
-use Rattle.theory.proofs.View.{valid, Copy, none, regular, normal, above, isTentative, View}
-use Rattle.theory.proofs.Moves.{At}
+use Rattle.theory.specs.View.{valid, Copy, none, regular, normal, above, isTentative, View}
+use Rattle.theory.specs.Change.{At}
 use Rattle.theory.proofs.Cache.{vacant, blank, filled, mainOn}
 use Rattle.theory.proofs.Slots.{look-none}
 use Rattle.theory.proofs.Lines.{lineIs, line-main}
 use Rattle.theory.proofs.Updates.{AllTidy, SlotSet, normal-gone}
 use Rattle.theory.proofs.Agree.{rolledBack-tentative}
-use Rattle.theory.proofs.Bus.{Step, store-hit, store-through, store-miss, Plainly, owning, isNormal, Unheld, un-tent, re-tent, Unnormal, un-norm, re-norm}
+use Rattle.theory.specs.Bus.{Step, store-hit, store-through, store-miss, Plainly, owning, isNormal, Unheld, un-tent, re-tent, Unnormal, un-norm, re-norm}
 use Rattle.theory.proofs.Refine.{same-refl, freed-none}
 use Rattle.serial.specs.Shown.{byStore}
 use Rattle.serial.specs.Taking.{valueEnd}

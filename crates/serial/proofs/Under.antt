@@ -13,7 +13,7 @@ use Rattle.machine.specs.declared.Dims.{Dims}
 use Rattle.machine.specs.State.{Caches, place, lineAt, entryAt}
 use Rattle.machine.specs.Own.{home, holds}
 use Rattle.machine.specs.Sound
-use Rattle.theory.proofs.View.{LineState, valid, reserved, dirty, Back, bare, backup, Copy, none, regular, normal, tentative, above, below, isDirty, has, exclusive}
+use Rattle.theory.specs.View.{LineState, valid, reserved, dirty, Back, bare, backup, Copy, none, regular, normal, tentative, above, below, isDirty, has, exclusive}
 use Rattle.theory.proofs.Cache.{Slot, vacant, slotNormal, slotBackup, slotTentative, slotBack, backOn, tentOn, regOn, is-self, is-true, Backs, backed, unbacked, looks, in-slot}
 use Rattle.theory.proofs.Slots.{look-norm, look-tent, look-reg, look-tentative}
 use Rattle.serial.proofs.Decode.{stateOf, slotOf, lineOf, decoded, seen}

@@ -5,9 +5,10 @@ use mathlib.Core.Bool.{Bool, true, false, true≢false, false≢true}
 use mathlib.Core.List.{List, [], _∷_}
 use Prim.Native.Nat.{ℕ}
 use native.Mathlib.Decide.{ℕ-discrete}
-use Rattle.theory.proofs.View.{LineState, valid, reserved, dirty, Back, bare, backup, Copy, none, regular, normal, tentative, above, isDirty, isTentative, exclusive, fine, ownValue, rolledBack, committed, Word, View}
+use Rattle.theory.specs.View.{LineState, valid, reserved, dirty, Back, bare, backup, Copy, none, regular, normal, tentative, above, isDirty, isTentative, exclusive, fine, ownValue, rolledBack, committed, Word, View}
 use Rattle.theory.proofs.OneWord.{Move, Low, Alone, moved, tstored, stored, rolled, committedWord, drop-reg, drop-norm, drop-back, lower-reg, lower-norm, begin-kept, begin-bare, fill-reg, fill-tent, fill-kept, own-reg, own-tent, own-kept, upgrade}
-use Rattle.theory.proofs.Moves.{Live, At, OnlyProcessor, same, Same, Silent, still, move, rollback, wake}
+use Rattle.theory.specs.Change.{Live, At, OnlyProcessor, same, Same}
+use Rattle.theory.proofs.Moves.{Silent, still, move, rollback, wake}
 
 -- the view agrees with one memory of settled values
 pub record Agree (S : View) (M : ℕ → ℕ) : Type 0 where

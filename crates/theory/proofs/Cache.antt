@@ -6,7 +6,7 @@ use mathlib.Core.Bool.{Bool, true, false, true≢false, false≢true}
 use Prim.Native.Nat.{ℕ, zero, suc, _≤_, _<_}
 use native.Mathlib.Decide.{ℕ-discrete, decLt}
 use native.Mathlib.Omega.{arith}
-use Rattle.theory.proofs.View.{LineState, valid, reserved, dirty, Back, bare, backup, Copy, none, regular, normal, tentative, rolledBack, committed}
+use Rattle.theory.specs.View.{LineState, valid, reserved, dirty, Back, bare, backup, Copy, none, regular, normal, tentative, rolledBack, committed}
 
 pub data Slot : Type 0 where
   vacant : Slot

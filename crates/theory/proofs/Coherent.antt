@@ -4,15 +4,16 @@ use mathlib.Core.Logic.{_≢_}
 use mathlib.Core.Bool.{Bool, true, false, true≢false, false≢true}
 use mathlib.Core.List.{List, [], _∷_}
 use Prim.Native.Nat.{ℕ, _≤_}
-use Rattle.theory.proofs.View.{regular, isTentative, isDirty, ownValue, View}
+use Rattle.theory.specs.View.{regular, isTentative, isDirty, ownValue, View}
 use Rattle.theory.proofs.OneWord.{Alone, tstored, stored, released}
 use Rattle.theory.specs.Log.{put}
 use Rattle.theory.proofs.Logs.{put-here, put-else}
 use Rattle.theory.specs.Event.{Event}
-use Rattle.theory.proofs.Moves.{Silent, still, Shown, loads, stores, writes, treads, twrites, releases, commits, drops, Run, done, quietly, showing, At}
+use Rattle.theory.specs.Change.{At}
+use Rattle.theory.proofs.Moves.{Silent, still, Shown, loads, stores, writes, treads, twrites, releases, commits, drops, Run, done, quietly, showing}
 use Rattle.theory.proofs.Agree.{Agree, agree-at, agree-silent, agree-commit, agree-flags}
 use Rattle.theory.proofs.Settled.{Coherent, Within, coarse, coherent→agree, agree→coherent, settled}
-use Rattle.theory.proofs.Bus.{Step}
+use Rattle.theory.specs.Bus.{Step}
 use Rattle.theory.proofs.Refine.{step-run}
 
 -- the settled values that an event leaves

@@ -2,13 +2,13 @@
 use mathlib.Core.Path.{_≡_, refl}
 use mathlib.Core.List.{List, [], _∷_, _++_}
 use Prim.Native.Nat.{ℕ}
-use Rattle.theory.proofs.View.{View}
+use Rattle.theory.specs.View.{View}
 use Rattle.theory.specs.Event.{Event}
 use Rattle.theory.proofs.Moves.{Run, done, quietly, showing}
 use Rattle.theory.specs.Plain.{Plain, Serial, Opaque, after, unlogged}
 use Rattle.theory.proofs.Invariant.{Inv, serial}
 use Rattle.theory.proofs.Settled.{Within, settled, Coherent, Bare, bare-inv, serializable}
-use Rattle.theory.proofs.Bus.{Step}
+use Rattle.theory.specs.Bus.{Step}
 use Rattle.theory.proofs.Refine.{step-run}
 
 -- steps one after the other, and the events that they show

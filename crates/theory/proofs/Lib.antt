@@ -1,11 +1,9 @@
-pub mod View
 pub mod OneWord
 pub mod Moves
 pub mod Logs
 pub mod Agree
 pub mod Invariant
 pub mod Settled
-pub mod Bus
 pub mod Refine
 pub mod Coherent
 pub mod History

@@ -4,7 +4,7 @@ use mathlib.Core.Logic.{_≢_, _⊎_, inl, inr}
 use mathlib.Core.Bool.{Bool, true, false, true≢false, false≢true}
 use Prim.Native.Nat.{ℕ, _<_}
 use native.Mathlib.Decide.{ℕ-discrete}
-use Rattle.theory.proofs.View.{LineState, Copy, none, regular}
+use Rattle.theory.specs.View.{LineState, Copy, none, regular}
 use Rattle.theory.proofs.Cache.{Slot, Line, blank, filled, is, is-self, is-other, is-true, mainOn, backOn, tentOn, regOn, regCopy, Has, in-line, in-slot, nowhere, look, Tidy, looks, LineCalm, look-calm, not-true}
 use Rattle.theory.proofs.Slots.{look-none}
 

@@ -6,7 +6,7 @@ use mathlib.Core.List.{List, [], _∷_}
 use Prim.Native.Nat.{ℕ}
 use native.Mathlib.Decide.{ℕ-discrete}
 use Rattle.theory.specs.Log.{pickDec, put, Item, read, write, replay, Replays, forget}
-use Rattle.theory.proofs.View.{Copy, none, regular, normal, tentative, isTentative, isStored, ownValue}
+use Rattle.theory.specs.View.{Copy, none, regular, normal, tentative, isTentative, isStored, ownValue}
 
 pub pick-yes : {A P : Type 0} (d : Dec P) (a b : A) → P → pickDec d a b ≡ a
 unfolding pickDec

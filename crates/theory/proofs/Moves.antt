@@ -6,37 +6,9 @@ use mathlib.Core.Bool.{Bool, true, false}
 use mathlib.Core.List.{List, [], _∷_}
 use Prim.Native.Nat.{ℕ}
 use Rattle.theory.specs.Event.{Event, load, store, tread, twrite, release, commit, drop}
-use Rattle.theory.proofs.View.{LineState, valid, reserved, dirty, Back, Copy, none, regular, normal, tentative, above, isDirty, isTentative, rolledBack, committed, View}
+use Rattle.theory.specs.View.{LineState, valid, reserved, dirty, Back, Copy, none, regular, normal, tentative, above, isDirty, isTentative, rolledBack, committed, View}
+use Rattle.theory.specs.Change.{Live, At, OnlyProcessor, same, Same}
 use Rattle.theory.proofs.OneWord.{Move, Low, Alone}
-
-abbrev pub Live : View → ℕ → Type 0
-Live S p = (S .active p ≡ true) × (S .status p ≡ true)
-
--- nothing changes but word w in the memory and in p's cache
-pub record At (p w : ℕ) (S S′ : View) : Type 0 where
-  pub memory-else : (u : ℕ) → u ≢ w → S′ .memory u ≡ S .memory u
-  pub word-else : (u : ℕ) → u ≢ w → (q : ℕ) → S′ .copy u q ≡ S .copy u q
-  pub proc-else : (q : ℕ) → q ≢ p → S′ .copy w q ≡ S .copy w q
-  pub active-same : (q : ℕ) → S′ .active q ≡ S .active q
-  pub status-same : (q : ℕ) → S′ .status q ≡ S .status q
-
--- nothing changes but p's copies, each by f, and p's flags
-pub record OnlyProcessor (f : Copy → Copy) (p : ℕ) (S S′ : View) : Type 0 where
-  pub memory-same : (u : ℕ) → S′ .memory u ≡ S .memory u
-  pub here : (u : ℕ) → S′ .copy u p ≡ f (S .copy u p)
-  pub else : (u q : ℕ) → q ≢ p → S′ .copy u q ≡ S .copy u q
-  pub active-else : (q : ℕ) → q ≢ p → S′ .active q ≡ S .active q
-  pub status-else : (q : ℕ) → q ≢ p → S′ .status q ≡ S .status q
-
-abbrev pub same : Copy → Copy
-same k = k
-
--- nothing changes
-pub record Same (S S′ : View) : Type 0 where
-  pub memory-same : (u : ℕ) → S′ .memory u ≡ S .memory u
-  pub copy-same : (u q : ℕ) → S′ .copy u q ≡ S .copy u q
-  pub active-same : (q : ℕ) → S′ .active q ≡ S .active q
-  pub status-same : (q : ℕ) → S′ .status q ≡ S .status q
 
 pub data Silent (S S′ : View) : Type 0 where
   still : Same S S′ → Silent S S′

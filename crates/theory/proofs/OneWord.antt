@@ -4,7 +4,7 @@ use mathlib.Core.Logic.{_≢_, _⊎_, inl, inr}
 use mathlib.Core.Bool.{Bool, true, false, true≢false, false≢true}
 use Prim.Native.Nat.{ℕ}
 use native.Mathlib.Decide.{ℕ-discrete}
-use Rattle.theory.proofs.View.{wrote, dried, isStored, has, LineState, valid, reserved, dirty, Back, bare, backup, Copy, none, regular, normal, tentative, above, isDirty, below, isTentative, exclusive, backDirty, owns, fineBack, fine, ownValue, backRolled, rolledBack, committed, Word}
+use Rattle.theory.specs.View.{wrote, dried, isStored, has, LineState, valid, reserved, dirty, Back, bare, backup, Copy, none, regular, normal, tentative, above, isDirty, below, isTentative, exclusive, backDirty, owns, fineBack, fine, ownValue, backRolled, rolledBack, committed, Word}
 
 pub changed : {m m′ x x′ : ℕ} {c c′ : ℕ → Copy} {p : ℕ} {k : Copy}
     → Word m c x

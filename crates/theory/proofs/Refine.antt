@@ -6,12 +6,13 @@ use mathlib.Core.List.{List, [], _∷_}
 use Prim.Native.Nat.{ℕ, zero, suc, _≤_, _<_}
 use native.Mathlib.Decide.{ℕ-discrete, decLt}
 use native.Mathlib.Omega.{arith}
-use Rattle.theory.proofs.View.{LineState, valid, reserved, dirty, Back, bare, backup, Copy, none, regular, normal, tentative, above, isDirty, wrote, dried, isTentative, exclusive, rolledBack, committed, View}
+use Rattle.theory.specs.View.{LineState, valid, reserved, dirty, Back, bare, backup, Copy, none, regular, normal, tentative, above, isDirty, wrote, dried, isTentative, exclusive, rolledBack, committed, View}
 use Rattle.theory.proofs.OneWord.{Move, Low, Alone, drop-reg, drop-norm, drop-back, lower-reg, lower-norm, begin-kept, begin-bare, fill-reg, fill-tent, fill-kept, own-reg, own-tent, own-kept, upgrade, not-up}
 use Rattle.theory.specs.Event.{Event, load, store, tread, twrite, commit, drop}
-use Rattle.theory.proofs.Moves.{Live, At, OnlyProcessor, same, Same, Silent, still, move, rollback, wake, sees, Shown, loads, stores, writes, treads, twrites, commits, drops, Run, done, quietly, showing, run-then, run-one}
+use Rattle.theory.specs.Change.{Live, At, OnlyProcessor, same, Same}
+use Rattle.theory.proofs.Moves.{Silent, still, move, rollback, wake, sees, Shown, loads, stores, writes, treads, twrites, commits, drops, Run, done, quietly, showing, run-then, run-one}
 use Rattle.theory.proofs.Agree.{Agree, rolledBack-tentative}
-use Rattle.theory.proofs.Bus
+use Rattle.theory.specs.Bus
 
 -- p's own side of a phase: its copy of w, its flags
 pub record Kept (p w : ℕ) (S S′ : View) : Type 0 where

@@ -6,10 +6,11 @@ use mathlib.Core.List.{List, [], _∷_}
 use Prim.Native.Nat.{ℕ, zero, suc, _≤_, _<_}
 use native.Mathlib.Decide.{ℕ-discrete, decLt}
 use native.Mathlib.Omega.{arith}
-use Rattle.theory.proofs.View.{LineState, valid, reserved, dirty, Back, bare, backup, Copy, none, regular, normal, tentative, above, isDirty, below, isTentative, exclusive, backDirty, owns, fineBack, fine, has, Word, View}
+use Rattle.theory.specs.View.{LineState, valid, reserved, dirty, Back, bare, backup, Copy, none, regular, normal, tentative, above, isDirty, below, isTentative, exclusive, backDirty, owns, fineBack, fine, has, Word, View}
 use Rattle.theory.proofs.OneWord.{owns-excl, dry-back, dry-value, below-up, below-dry, wet-up, not-up}
 use Rattle.theory.specs.Event.{Event}
-use Rattle.theory.proofs.Moves.{Live, Silent, Shown, Run}
+use Rattle.theory.specs.Change.{Live}
+use Rattle.theory.proofs.Moves.{Silent, Shown, Run}
 use Rattle.theory.proofs.Logs.{Good, good-empty}
 use Rattle.theory.specs.Plain.{Plain, Serial, Opaque, after, unlogged}
 use Rattle.theory.proofs.Agree.{Agree, agree-silent}

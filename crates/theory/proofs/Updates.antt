@@ -6,12 +6,12 @@ use mathlib.Core.Bool.{Bool, true, false, true≢false, false≢true}
 use Prim.Native.Nat.{ℕ, zero, suc, _≤_, _<_}
 use native.Mathlib.Decide.{ℕ-discrete, decLt}
 use native.Mathlib.Omega.{arith}
-use Rattle.theory.proofs.View.{LineState, valid, reserved, dirty, Back, bare, backup, Copy, none, regular, normal, tentative, above, isDirty, wrote, dried, isTentative, rolledBack, committed, View}
-use Rattle.theory.proofs.Moves.{Live, At, OnlyProcessor, same, Same}
+use Rattle.theory.specs.View.{LineState, valid, reserved, dirty, Back, bare, backup, Copy, none, regular, normal, tentative, above, isDirty, wrote, dried, isTentative, rolledBack, committed, View}
+use Rattle.theory.specs.Change.{Live, At, OnlyProcessor, same, Same}
 use Rattle.theory.proofs.Cache.{Slot, vacant, slotNormal, slotBackup, slotTentative, Line, blank, filled, is-self, mainOn, backOn, tentOn, regOn, slotCopy, slotRollback, slotCommit, Backs, backed, unbacked, look, Tidy, look-calm, tidy-shrink, tidy-settle, look-settle, tidy-roll, look-roll}
 use Rattle.theory.proofs.Slots.{wordIs, look-none, look-normal, look-tentative, look-else, tidy-out, look-out, tidy-backout, look-backout, tidy-turn, look-turn, tidy-in, look-in, tidy-back, look-back}
 use Rattle.theory.proofs.Lines.{lineIs, tidy-line, line-else, line-main, look-line, look-blank, look-filled}
-use Rattle.theory.proofs.Bus
+use Rattle.theory.specs.Bus
 
 pub record State : Type 0 where
   pub memory : ℕ → ℕ

@@ -1,3 +1,6 @@
 pub mod Event
 pub mod Log
 pub mod Plain
+pub mod View
+pub mod Change
+pub mod Bus

@@ -4,9 +4,9 @@ use mathlib.Core.Logic.{_≢_, _⊎_}
 use mathlib.Core.Bool.{Bool, true, false}
 use mathlib.Core.List.{List, [], _∷_}
 use Prim.Native.Nat.{ℕ, zero, suc}
-use Rattle.theory.proofs.View.{LineState, valid, reserved, dirty, Back, bare, backup, Copy, none, regular, normal, tentative, above, isDirty, wrote, dried, isTentative, rolledBack, committed, View}
+use Rattle.theory.specs.View.{LineState, valid, reserved, dirty, Back, bare, backup, Copy, none, regular, normal, tentative, above, isDirty, wrote, dried, isTentative, rolledBack, committed, View}
 use Rattle.theory.specs.Event.{Event, load, store, tread, twrite, commit, drop}
-use Rattle.theory.proofs.Moves.{At, OnlyProcessor, same, Same}
+use Rattle.theory.specs.Change.{At, OnlyProcessor, same, Same}
 
 -- a line or an entry of p is freed: it was empty, or what it held is written back if DIRTY
 pub data Freed (p : ℕ) (S S′ : View) : Type 0 where
