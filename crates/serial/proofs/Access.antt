@@ -1,42 +1,41 @@
 -- LT, LTX and ST with a tentative entry: an upgrade where it is asked, then the answer or the store.
-use mathlib.Core.Path.{_≡_, refl, sym, _∙_, ap, subst, subst⁻¹, fun-ext}
-use mathlib.Core.Logic.{_≢_, inl, inr}
+use mathlib.Core.Path.{_≡_, refl, _∙_, ap, subst, subst⁻¹, fun-ext}
+use mathlib.Core.Logic.{_≢_, inr}
 use mathlib.Core.Bool.{Bool, true, false}
-use mathlib.Core.List.{List}
-use Prim.Native.Nat.{ℕ, _+_, _≤_, _<_}
+use Prim.Native.Nat.{ℕ, _+_, _<_}
 use native.Mathlib.Omega.{arith}
-use lib.Dec.{eqb, leb}
+use lib.Dec.{eqb}
 use borrow.Author.Tests.{eqb-true, eqb-false, le-leb}
 use Rattle.laws.specs.Choice.{pick}
 use Rattle.entry.specs.declared.Entry.{Entry}
 use Rattle.entry.specs.declared.answer.Answer.the-variants.{Done, Aborted}
 use Rattle.entry.specs.declared.answer.Counts.{Counts}
 use Rattle.entry.specs.Numbers.{INVALID, VALID, RESERVED, DIRTY, TENTATIVE, LT, LTX, ST, T-RFO}
-use Rattle.entry.specs.Packing.{entry, InRange, unpack-range}
+use Rattle.entry.specs.Packing.{entry, InRange}
 use Rattle.entry.specs.Entry.{stored, withState}
 use Rattle.entry.specs.Answer.{asked, quiet}
 use Rattle.machine.specs.declared.Dims.{Dims}
-use Rattle.machine.specs.State.{Caches, place, gives, entryAt, wordAt, withEntry}
+use Rattle.machine.specs.State.{Caches, gives, entryAt, withEntry}
 use Rattle.machine.specs.Own.{home}
 use Rattle.machine.specs.Rollback.{rollback}
 use Rattle.machine.specs.Bus.{snoop, refuses}
 use Rattle.machine.specs.Transact.{finish, busy, hit}
-use Rattle.theory.specs.View.{valid, reserved, dirty, Back, Copy, tentative, above, View}
+use Rattle.theory.specs.View.{valid, reserved, Back, tentative, View}
 use Rattle.theory.specs.Change.{At}
-use Rattle.theory.proofs.Cache.{Slot, slotTentative, slotCopy, is-self, backOf, back-is, Line}
-use Rattle.theory.proofs.Updates.{AllTidy, SlotSet, turned}
-use Rattle.theory.specs.Bus.{Kind, reading, owning, Step, gets, puts, fails, Opened, Held, has-it, raises, Denied, no-raise, enough, Granted}
+use Rattle.theory.proofs.Cache.{Slot, is-self, backOf, back-is, Line}
+use Rattle.theory.proofs.Updates.{AllTidy, turned}
+use Rattle.theory.specs.Bus.{Kind, reading, owning, gets, puts, fails, Opened, Held, has-it, raises, Denied, no-raise, enough}
 use Rattle.theory.proofs.Refine.{same-refl}
 use Rattle.serial.specs.Shown.{byAccess}
 use Rattle.serial.specs.Taking.{valueEnd}
-use Rattle.serial.proofs.Decode.{stateOf, slotOf, decoded, seen, copy-here}
+use Rattle.serial.proofs.Decode.{stateOf, decoded, seen, copy-here}
 use Rattle.serial.proofs.Frame.{EntryFits, Fits}
-use Rattle.serial.proofs.Set.{Fit, entryOn, memory-same, set-slot, entry-fit}
+use Rattle.serial.proofs.Set.{Fit, memory-same, set-slot, entry-fit}
 use Rattle.serial.proofs.Ends.{Does, rollback-fit, rollback-is}
-use Rattle.serial.proofs.Codes.{tentative-slot, above-code, tagged-fits}
+use Rattle.serial.proofs.Codes.{above-code, tagged-fits}
 use Rattle.serial.proofs.Find.{entry-fits, backing, slot-tentative-at, has-tentative}
-use Rattle.serial.proofs.Others.{Own, is-busy}
-use Rattle.serial.proofs.Requests.{Served, by-leave, is-T-RFO}
+use Rattle.serial.proofs.Others.{is-busy}
+use Rattle.serial.proofs.Requests.{by-leave, is-T-RFO}
 use Rattle.serial.proofs.Lined.{own-slot, own-line}
 
 pub data Access : Type 0 where

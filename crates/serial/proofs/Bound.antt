@@ -1,7 +1,6 @@
 -- "One step counts at most 3 WRITE, one request and one BUSY", whatever the state; and a trace that reaches 3.
-use mathlib.Core.Path.{_≡_, refl, ap, subst⁻¹}
 use mathlib.Core.Bool.{Bool, true, false}
-use mathlib.Core.List.{List, [], _∷_}
+use mathlib.Core.List.{[], _∷_}
 use Prim.Native.Nat.{ℕ, _+_, _≤_}
 use native.Mathlib.Omega.{arith}
 use lib.Dec.{eqb, ltb, T}
@@ -9,14 +8,14 @@ use Rattle.laws.specs.Choice.{pick}
 use Rattle.entry.specs.declared.Entry.{Entry}
 use Rattle.entry.specs.declared.answer.Answer.the-variants.{Value, Done, Success}
 use Rattle.entry.specs.declared.answer.Counts.{Counts}
-use Rattle.entry.specs.Numbers.{VALID, DIRTY, NORMAL, TENTATIVE, LOAD, STORE, LT, LTX, ST, COMMIT, ABORT, VALIDATE, INTERRUPT, READ, RFO, WRITE, T-READ, T-RFO}
+use Rattle.entry.specs.Numbers.{VALID, DIRTY, NORMAL, TENTATIVE, LOAD, STORE, LT, LTX, ST, COMMIT, ABORT, VALIDATE, INTERRUPT, RFO, T-READ, T-RFO}
 use Rattle.entry.specs.Answer.{asked, quiet, noCycles, refusedBy}
 use Rattle.machine.specs.declared.Dims.{Dims}
 use Rattle.machine.specs.declared.Machine.{Machine}
 use Rattle.machine.specs.State.{Caches, cachesOf, Outcome, Counted, counted, lineAt, entryAt, TSTATUS}
 use Rattle.machine.specs.Own.{home, holds, findEntry, freeSlot}
 use Rattle.machine.specs.Rollback.{rollback, begun}
-use Rattle.machine.specs.Bus.{writes, clearEntry, snoop, refuses}
+use Rattle.machine.specs.Bus.{writes, clearEntry, refuses}
 use Rattle.machine.specs.Load.{loadMiss, loadOn, load}
 use Rattle.machine.specs.Store.{rollOwn, dropNormal, storeThrough, storeMiss, storeLine, store}
 use Rattle.machine.specs.Transact.{requestOf, dropLine, finish, hit, openNormal, clearBackup, fill, request, missAt, miss, seek, transact}

@@ -1,8 +1,8 @@
 -- An entry by its tag, and the codes of its state.
-use mathlib.Core.Path.{_≡_, refl, sym, _∙_, ap}
+use mathlib.Core.Path.{_≡_, refl, sym, ap}
 use mathlib.Core.Logic.{_≢_, inl, inr}
 use mathlib.Core.Bool.{Bool, true, false, true≢false}
-use Prim.Native.Nat.{ℕ, zero, suc, _≤_, _<_}
+use Prim.Native.Nat.{ℕ, zero, suc, _<_}
 use native.Mathlib.Omega.{arith}
 use lib.Dec.{eqb, leb}
 use borrow.Author.Tests.{eqb-true}
@@ -11,7 +11,7 @@ use Rattle.entry.specs.declared.Entry.{Entry}
 use Rattle.entry.specs.Numbers.{INVALID, RESERVED, DIRTY, NORMAL, BACKUP, TENTATIVE}
 use Rattle.machine.specs.declared.Dims.{Dims}
 use Rattle.theory.specs.View.{LineState, valid, reserved, dirty, above, isDirty}
-use Rattle.theory.proofs.Cache.{Slot, vacant, slotNormal, slotBackup, slotTentative, Line, blank, filled}
+use Rattle.theory.proofs.Cache.{vacant, slotNormal, slotBackup, slotTentative, blank, filled}
 use Rattle.serial.proofs.Decode.{stateOf, slotBy, slotOf, lineOf}
 use Rattle.serial.proofs.Frame.{EntryFits, Fits}
 

@@ -1,12 +1,8 @@
 -- DEMAND 3 and opacity: from a fresh machine, through any steps that the machine of demand 2 took.
-use mathlib.Core.Path.{_≡_, refl, sym, _∙_, ap, subst, subst⁻¹, fun-ext}
-use mathlib.Core.Bool.{Bool, true, false}
-use mathlib.Core.List.{List, [], _∷_}
+use mathlib.Core.Path.{_≡_, refl, _∙_, ap, subst, subst⁻¹, fun-ext}
+use mathlib.Core.List.{List, _∷_}
 use Prim.Native.Nat.{ℕ, _<_}
-use lib.Dec.{ltb}
-use lib.ListN.{getD}
 use borrow.Author.Tests.{lt-ltb}
-use Rattle.laws.specs.Choice.{pick}
 use Rattle.entry.specs.declared.answer.Answer.{Answer}
 use Rattle.entry.specs.declared.answer.Answer.the-variants.{Value}
 use Rattle.machine.specs.declared.Dims.{Dims}
@@ -17,9 +13,9 @@ use Rattle.machine.specs.Refusals.{accepted}
 use Rattle.machine.specs.Making.{fresh, makeOf}
 use Rattle.machine.specs.Settled.{settledIn}
 use Rattle.machine.specs.Sound.{Sound}
-use Rattle.machine.specs.Step.{takeStep, steppedOf, settledOf, stepOf}
+use Rattle.machine.specs.Step.{takeStep, settledOf, stepOf}
 use Rattle.theory.specs.Event.{Event}
-use Rattle.theory.specs.Plain.{Plain, Serial, Opaque, after, unlogged}
+use Rattle.theory.specs.Plain.{Serial, Opaque, after, unlogged}
 use Rattle.theory.proofs.Settled.{settled, Coherent, coherent→agree}
 use Rattle.theory.specs.Bus.{Step}
 use Rattle.theory.proofs.History

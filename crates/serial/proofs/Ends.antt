@@ -1,9 +1,9 @@
 -- Rollback, COMMIT, ABORT, VALIDATE and INTERRUPT are the theory's.
 use mathlib.Core.Path.{_≡_, refl, sym, _∙_, ap}
-use mathlib.Core.Logic.{_≢_, inl}
+use mathlib.Core.Logic.{inl}
 use mathlib.Core.Bool.{Bool, true, false}
 use mathlib.Core.List.{List}
-use Prim.Native.Nat.{ℕ, _≤_, _<_}
+use Prim.Native.Nat.{ℕ, _<_}
 use native.Mathlib.Omega.{arith}
 use borrow.Author.Tests.{lt-ltb}
 use Rattle.laws.specs.Choice.{pick}
@@ -14,7 +14,7 @@ use Rattle.entry.specs.Packing.{InRange}
 use Rattle.entry.specs.Answer.{noCycles}
 use Rattle.entry.specs.Entry.{rolledBack, committed}
 use Rattle.machine.specs.declared.Dims.{Dims}
-use Rattle.machine.specs.State.{Caches, caches, copyAt, withFlags, Outcome, gives, TSTATUS, activePlace, statusPlace, trueFlag}
+use Rattle.machine.specs.State.{Caches, caches, copyAt, withFlags, Outcome, gives, TSTATUS, trueFlag}
 use Rattle.machine.specs.Own.{home}
 use Rattle.machine.specs.Rollback.{overEntries, rolledEntries, committedEntries, rollback, begun, ended}
 use Rattle.machine.specs.Ends
@@ -31,7 +31,7 @@ use Rattle.serial.proofs.Decode.{slotOf, decoded, seen, read-at, read-s
 use Rattle.serial.proofs.Frame.{EntryFits, Fits, Frame}
 use Rattle.serial.proofs.Set.{Fit}
 use Rattle.serial.proofs.Over.{over-in, over-else, over-copies, slot-rolled, slot-committed, range-rolled, range-committed, fits-rolled, fits-committed}
-use Rattle.serial.proofs.Flag.{flag, FlagsTo, set-active, down, ended-flags}
+use Rattle.serial.proofs.Flag.{FlagsTo, set-active, down, ended-flags}
 
 -- an outcome is a step of the theory that shows the events of its answer, and leaves the state fit
 pub record Does (d : Dims) (S : View) (es : Answer → List Event) (r : Outcome) : Type 0 where

@@ -1,29 +1,26 @@
 -- What the machine's searches say of a processor's own copy of a word.
 use mathlib.Core.Path.{_≡_, refl, sym, _∙_, ap}
-use mathlib.Core.Logic.{_≢_, inl, inr}
 use mathlib.Core.Bool.{Bool, true, false, true≢false, not}
-use Prim.Native.Nat.{ℕ, _+_, _%_, _≤_, _<_}
+use Prim.Native.Nat.{ℕ, _≤_, _<_}
 use native.Mathlib.Nat.{mod-lt}
 use native.Mathlib.Omega.{arith}
-use lib.Dec.{eqb, leb}
-use borrow.Author.Tests.{eqb-true, eqb-false, eq-eqb, ne-eqb, not-true, le-leb}
+use lib.Dec.{eqb}
+use borrow.Author.Tests.{eqb-true, eqb-false, eq-eqb, not-true}
 use Rattle.laws.specs.Choice.{both}
 use Rattle.laws.specs.Search.{firstFrom, first-has, first-not}
 use Rattle.entry.specs.declared.Entry.{Entry}
-use Rattle.entry.specs.Numbers.{INVALID, DIRTY, NORMAL, BACKUP, TENTATIVE}
-use Rattle.entry.specs.Entry.{isEntry}
-use Rattle.entry.specs.Packing.{unpack-range, noEntry}
+use Rattle.entry.specs.Numbers.{INVALID, DIRTY, NORMAL, TENTATIVE}
 use Rattle.machine.specs.declared.Dims.{Dims}
-use Rattle.machine.specs.State.{Caches, copyAt, lineAt, entryAt, place}
+use Rattle.machine.specs.State.{Caches, lineAt, entryAt}
 use Rattle.machine.specs.Own.{home, holds, hasEntry, findEntry}
 use Rattle.theory.specs.View.{Back, Copy, none, regular, normal, tentative, isTentative}
-use Rattle.theory.proofs.Cache.{vacant, slotNormal, slotTentative, blank, filled, regOn, is-self, is-true, looks, in-line, back-is, backOf, Slot, Line}
+use Rattle.theory.proofs.Cache.{vacant, slotNormal, slotTentative, blank, filled, regOn, is-self, is-true, looks, in-line, back-is, backOf}
 use Rattle.theory.proofs.Slots.{look-normal, look-tentative, look-norm, look-tent, look-reg}
 use Rattle.theory.specs.Bus.{isNormal, isRegular}
 use Rattle.serial.proofs.Decode.{stateOf, slotOf, lineOf, decoded, seen, read-at}
 use Rattle.serial.proofs.Frame.{LineFits, EntryFits, Fits, Size}
 use Rattle.serial.proofs.Set.{Fit}
-use Rattle.serial.proofs.Codes.{both-true, both-left, both-right, normal-slot, tentative-slot, filled-line, Is, slot-normal, slot-tentative, tagged-fits}
+use Rattle.serial.proofs.Codes.{both-true, both-left, both-right, normal-slot, tentative-slot, filled-line, slot-normal, slot-tentative}
 
 pub home-in : {d : Dims} → Size d → (w : ℕ) → home d w < d .lines
 unfolding home

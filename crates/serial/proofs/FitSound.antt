@@ -1,35 +1,32 @@
 -- A state that is fit and coherent is sound: clause by clause.
 use mathlib.Core.Path.{_≡_, refl, sym, _∙_, ap, subst}
 use mathlib.Core.Logic.{_≢_, _⊎_, inl, inr}
-use mathlib.Core.Bool.{Bool, true, false, not, true≢false, false≢true}
-use Prim.Native.Nat.{ℕ, _%_, _≤_, _<_}
+use mathlib.Core.Bool.{true, false, not, true≢false}
+use Prim.Native.Nat.{ℕ, _≤_, _<_}
 use native.Mathlib.Decide.{ℕ-discrete}
 use native.Mathlib.Omega.{arith}
-use lib.Dec.{eqb, leb}
+use lib.Dec.{eqb}
 use lib.ListN.{getD}
 use borrow.Author.Tests.{eq-eqb, ne-eqb, eqb-false, lt-ltb, le-leb, not-true}
-use Rattle.laws.specs.Choice.{both}
 use Rattle.entry.specs.declared.Entry.{Entry}
 use Rattle.entry.specs.Numbers.{INVALID, RESERVED, DIRTY, NORMAL, BACKUP, TENTATIVE}
 use Rattle.entry.specs.Packing.{noEntry}
 use Rattle.machine.specs.declared.Dims.{Dims}
-use Rattle.machine.specs.State.{Caches, place, lineAt, entryAt, wordAt, activePlace, statusPlace, falseFlag, trueFlag}
-use Rattle.machine.specs.Own.{home, holds}
+use Rattle.machine.specs.State.{Caches, lineAt, entryAt, activePlace, statusPlace, falseFlag, trueFlag}
+use Rattle.machine.specs.Own.{home}
 use Rattle.machine.specs.Making.{dimsRefusal}
 use Rattle.machine.specs.Refusals.{accepted}
 use Rattle.machine.specs.Sound.{Sound, Held, Copy, Tentative}
-use Rattle.theory.specs.View.{LineState, Back, backup, none, regular, normal, tentative, above, isDirty, has, exclusive, isTentative, below}
+use Rattle.theory.specs.View.{LineState, regular, above, isDirty, has, exclusive, below}
 use Rattle.theory.specs.View
 use Rattle.theory.proofs.OneWord.{below-up}
-use Rattle.theory.proofs.Cache.{filled, is-self, mainOn, backOn, tentOn, regOn, main-tent}
-use Rattle.theory.proofs.Settled.{Coherent, agrees, ordered}
-use Rattle.serial.proofs.Decode.{stateOf, slotOf, lineOf, decoded, seen}
+use Rattle.theory.proofs.Cache.{filled, is-self, mainOn, backOn, regOn}
+use Rattle.theory.proofs.Settled.{Coherent}
+use Rattle.serial.proofs.Decode.{stateOf, lineOf, decoded, seen}
 use Rattle.serial.proofs.Frame.{LineFits, EntryFits, Fits}
 use Rattle.serial.proofs.Set.{Fit}
 use Rattle.serial.proofs.Codes.{both-true, above-code, dirty-code, normal-slot, backup-slot, tentative-slot, filled-line, tagged-fits}
-use Rattle.serial.proofs.Find.{home-in, slot-at, line-at, backing, has-regular, has-normal, has-tentative}
-use Rattle.serial.proofs.SoundFit.{backup-says}
-use Rattle.serial.proofs.SoundCoherent.{copy-range}
+use Rattle.serial.proofs.Find.{slot-at, line-at, has-regular, has-normal, has-tentative}
 use Rattle.serial.proofs.Under.{tentative-entry, has-backup, code-below}
 
 -- a held copy is the machine's

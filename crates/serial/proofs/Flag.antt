@@ -1,9 +1,9 @@
 -- TACTIVE and TSTATUS of one processor are set.
-use mathlib.Core.Path.{_≡_, refl, sym, _∙_, ap, subst⁻¹}
+use mathlib.Core.Path.{_≡_, refl, _∙_, ap, subst⁻¹}
 use mathlib.Core.Logic.{_≢_}
 use mathlib.Core.Bool.{Bool, true, false, not}
 use mathlib.Core.List.{List}
-use Prim.Native.Nat.{ℕ, _+_, _%_, _≤_, _<_}
+use Prim.Native.Nat.{ℕ, _≤_, _<_}
 use native.Mathlib.Decide.{ℕ-discrete, decLt}
 use native.Mathlib.Omega.{arith}
 use lib.Dec.{eqb, ltb}

@@ -1,9 +1,9 @@
 -- What stands in the machine's lists, place by place: the part of a sound state that speaks of no two copies. Each update keeps it.
-use mathlib.Core.Path.{_≡_, refl, sym, _∙_, ap, subst⁻¹}
+use mathlib.Core.Path.{_≡_, refl, _∙_, ap, subst⁻¹}
 use mathlib.Core.Logic.{_≢_, _⊎_, inl, inr}
 use mathlib.Core.Bool.{Bool, true, false}
 use mathlib.Core.List.{List}
-use Prim.Native.Nat.{ℕ, _+_, _*_, _%_, _≤_, _<_}
+use Prim.Native.Nat.{ℕ, _≤_, _<_}
 use native.Mathlib.Decide.{ℕ-discrete, decLt}
 use native.Mathlib.Omega.{arith}
 use lib.Dec.{eqb}
@@ -13,9 +13,9 @@ use borrow.Author.Tests.{eqb-true}
 use Rattle.laws.specs.Choice.{pick}
 use Rattle.entry.specs.declared.Entry.{Entry}
 use Rattle.entry.specs.Numbers.{INVALID, DIRTY}
-use Rattle.entry.specs.Packing.{pack, unpack, noEntry, packedEnd, InRange, unpack-range, pack-range}
+use Rattle.entry.specs.Packing.{pack, noEntry, packedEnd, InRange, pack-range}
 use Rattle.machine.specs.declared.Dims.{Dims}
-use Rattle.machine.specs.State.{Caches, caches, place, copyAt, withCopy, activePlace, statusPlace, trueFlag}
+use Rattle.machine.specs.State.{Caches, place, copyAt, withCopy, activePlace, statusPlace, trueFlag}
 use Rattle.machine.specs.Own.{home}
 use Rattle.machine.specs.Bus.{writtenBack}
 use Rattle.serial.specs.Taking.{valueEnd}

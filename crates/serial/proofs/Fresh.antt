@@ -3,7 +3,7 @@ use mathlib.Core.Path.{_≡_, refl, sym, _∙_, ap, subst⁻¹}
 use mathlib.Core.Logic.{inl}
 use mathlib.Core.Bool.{Bool, true, false, false≢true}
 use mathlib.Core.List.{List, [], _∷_, _++_}
-use Prim.Native.Nat.{ℕ, zero, suc, _+_, _-_, _%_, _≤_, _<_}
+use Prim.Native.Nat.{ℕ, _+_, _-_, _≤_, _<_}
 use native.Mathlib.Decide.{decLt}
 use native.Mathlib.Nat.{zero-add, suc-add}
 use native.Mathlib.Omega.{arith}
@@ -12,21 +12,20 @@ use lib.ListN.{length, getD, replicate, length-append, length-replicate, getD-re
 use borrow.Author.Tests.{eqb-true, eqb-false}
 use Rattle.laws.specs.Choice.{pick, both}
 use Rattle.entry.specs.declared.Entry.{Entry}
-use Rattle.entry.specs.Packing.{noEntry, unpack, packedEnd}
+use Rattle.entry.specs.Packing.{unpack, packedEnd}
 use Rattle.machine.specs.declared.Dims.{Dims}
 use Rattle.machine.specs.declared.Machine.{Machine}
-use Rattle.machine.specs.declared.Made.{Made}
-use Rattle.machine.specs.State.{Caches, place, copyAt, machineOf, activePlace, statusPlace, falseFlag, trueFlag}
+use Rattle.machine.specs.State.{place, copyAt, machineOf, activePlace, statusPlace, falseFlag, trueFlag}
 use Rattle.machine.specs.Own.{home}
 use Rattle.machine.specs.Refusals.{accepted, badMemory}
 use Rattle.machine.specs.Making.{dimsRefusal, makeRefusal, padded, freshFlags, fresh, smallest, made, makeOf}
 use Rattle.machine.specs.Sound.{Sound}
 use Rattle.theory.specs.View.{none}
 use Rattle.theory.proofs.Cache.{vacant, blank, Tidy, nowhere, looks}
-use Rattle.theory.proofs.Settled.{Coherent, Bare, bare-inv, agree→coherent}
+use Rattle.theory.proofs.Settled.{Bare, bare-inv, agree→coherent}
 use Rattle.serial.specs.Taking.{valueEnd, Values}
-use Rattle.serial.proofs.Decode.{slotOf, lineOf, readBy, decoded, seen, read-at, read-out}
-use Rattle.serial.proofs.Frame.{LineFits, EntryFits, Fits, Copies, Words, Flags, Size, Frame}
+use Rattle.serial.proofs.Decode.{slotOf, lineOf, readBy, decoded, seen}
+use Rattle.serial.proofs.Frame.{LineFits, EntryFits, Copies, Words, Flags, Size, Frame}
 use Rattle.serial.proofs.Set.{Fit}
 use Rattle.serial.proofs.Sizes.{size-of}
 use Rattle.serial.proofs.Requests.{beyond}

@@ -1,24 +1,23 @@
 -- Every step that is not refused keeps a sound state sound, from any sound state; so does a step of the machine, and a run.
-use mathlib.Core.Path.{_≡_, refl, sym, _∙_, ap, subst⁻¹}
-use mathlib.Core.Bool.{Bool, true, false, not, true≢false}
-use Prim.Native.Nat.{ℕ, _+_, _≤_, _<_}
+use mathlib.Core.Path.{_≡_, refl}
+use mathlib.Core.Bool.{Bool, true, false}
+use Prim.Native.Nat.{ℕ, _<_}
 use native.Mathlib.Omega.{arith}
-use lib.Dec.{eqb, ltb}
+use lib.Dec.{eqb}
 use lib.ListN.{length, getD}
 use borrow.Author.Tests.{eqb-true, eqb-false, not-false}
 use Rattle.laws.specs.Choice.{pick}
-use Rattle.laws.specs.Until.{untilRange, until-inv}
+use Rattle.laws.specs.Until.{until-inv}
 use Rattle.entry.specs.Answer.{refusalNumber, refusedBy}
 use Rattle.machine.specs.declared.Dims.{Dims}
 use Rattle.machine.specs.declared.Machine.{Machine}
-use Rattle.machine.specs.State.{Caches, cachesOf, machineOf}
+use Rattle.machine.specs.State.{Caches, cachesOf}
 use Rattle.machine.specs.Refusals.{accepted, notSound, badColumns}
 use Rattle.machine.specs.Sound.{Sound}
 use Rattle.machine.specs.SoundTest.{soundOf}
 use Rattle.machine.specs.Step.{stepRefusal, takeStep, stepped, steppedOf, stepSound, stepOf}
-use Rattle.machine.specs.Run.{Steps, Columns, columnsOk, Carried, carried, Left, left, refusalAt, stopsAt, turn, runSound, runOf}
+use Rattle.machine.specs.Run.{Steps, Columns, columnsOk, Carried, carried, left, refusalAt, stopsAt, turn, runSound, runOf}
 use Rattle.theory.proofs.Coherent.{coherent-step}
-use Rattle.sound.proofs.Exact.{true-sound}
 use Rattle.serial.specs.Taking.{valueEnd, Values}
 use Rattle.serial.proofs.Requests.{beyond}
 use Rattle.serial.proofs.Steps.{taken, step-does}

@@ -1,34 +1,34 @@
 -- A processor's regular line: it takes another copy of its word, it is freed, and it is evicted.
 use mathlib.Core.Path.{_≡_, refl, sym, _∙_, ap, subst, fun-ext}
-use mathlib.Core.Logic.{_≢_, _⊎_, inl, inr}
-use mathlib.Core.Bool.{Bool, true, false, not, true≢false, false≢true}
+use mathlib.Core.Logic.{inl, inr}
+use mathlib.Core.Bool.{Bool, true, false, not}
 use mathlib.Core.List.{List}
-use Prim.Native.Nat.{ℕ, _≤_, _<_}
+use Prim.Native.Nat.{ℕ, _<_}
 use native.Mathlib.Omega.{arith}
 use lib.Dec.{eqb}
 use lib.ListN.{getD}
-use borrow.Author.Tests.{eqb-true, eqb-false, not-true}
-use Rattle.laws.specs.Choice.{pick, both}
+use borrow.Author.Tests.{eqb-true}
+use Rattle.laws.specs.Choice.{pick}
 use Rattle.entry.specs.declared.Entry.{Entry}
-use Rattle.entry.specs.Numbers.{INVALID, DIRTY}
+use Rattle.entry.specs.Numbers.{INVALID}
 use Rattle.entry.specs.Packing.{noEntry, InRange, unpack-range}
 use Rattle.machine.specs.declared.Dims.{Dims}
-use Rattle.machine.specs.State.{Caches, place, copyAt, lineAt, entryAt, wordAt, Counted, counted}
+use Rattle.machine.specs.State.{Caches, lineAt, counted}
 use Rattle.machine.specs.Own.{home, holds}
 use Rattle.machine.specs.Bus.{writes, writtenBack, clearLine}
 use Rattle.machine.specs.Transact.{dropLine}
-use Rattle.theory.specs.View.{LineState, Copy, none, regular, View}
-use Rattle.theory.specs.Change.{At, Same}
+use Rattle.theory.specs.View.{LineState, none, regular}
+use Rattle.theory.specs.Change.{At}
 use Rattle.theory.proofs.Cache.{Slot, Line, vacant, blank, filled, mainOn, look}
 use Rattle.theory.proofs.Slots.{look-none}
 use Rattle.theory.proofs.Lines.{lineIs, line-main, look-line}
-use Rattle.theory.proofs.Updates.{State, AllTidy, LineSet, lined, line-in, line-out}
+use Rattle.theory.proofs.Updates.{AllTidy, LineSet, lined, line-in, line-out}
 use Rattle.theory.specs.Bus.{Freed, empty, reg-out, Unregular, un-reg, re-reg, isRegular}
 use Rattle.theory.proofs.Refine.{at-still, same-refl}
-use Rattle.serial.proofs.Decode.{stateOf, slotOf, lineOf, decoded, seen, read-same, copy-here}
+use Rattle.serial.proofs.Decode.{stateOf, slotOf, lineOf, decoded, seen, read-same}
 use Rattle.serial.proofs.Frame.{LineFits, Fits, Size, line-word}
-use Rattle.serial.proofs.Set.{Fit, lineOn, Memory, memory-same, back-at, back-here, set-line, line-fit}
-use Rattle.serial.proofs.Codes.{both-left, both-right, filled-line}
+use Rattle.serial.proofs.Set.{Fit, lineOn, Memory, back-at, back-here, set-line, line-fit}
+use Rattle.serial.proofs.Codes.{both-right, filled-line}
 use Rattle.serial.proofs.Find.{home-in, line-fits, line-at, line-filled, has-regular, no-regular}
 use Rattle.serial.proofs.Others.{Own}
 

@@ -1,10 +1,10 @@
 -- LOAD is the theory's.
 use mathlib.Core.Path.{_≡_, refl, sym, _∙_, ap}
-use mathlib.Core.Logic.{_≢_, _⊎_, inl, inr}
+use mathlib.Core.Logic.{_≢_, inr}
 use mathlib.Core.Bool.{Bool, true, false, true≢false, false≢true}
-use Prim.Native.Nat.{ℕ, _≤_, _<_}
+use Prim.Native.Nat.{ℕ, _<_}
 use native.Mathlib.Omega.{arith}
-use lib.Dec.{eqb, leb, ltb}
+use lib.Dec.{eqb, ltb}
 use borrow.Author.Tests.{eqb-true, eqb-false, ltb-true, ltb-false, le-leb}
 use Rattle.laws.specs.Choice.{pick}
 use Rattle.entry.specs.declared.Entry.{Entry}
@@ -13,22 +13,22 @@ use Rattle.entry.specs.Numbers.{INVALID, VALID, RESERVED, DIRTY, NORMAL, TENTAT
 use Rattle.entry.specs.Packing.{entry, InRange}
 use Rattle.entry.specs.Answer.{noCycles}
 use Rattle.machine.specs.declared.Dims.{Dims}
-use Rattle.machine.specs.State.{Caches, place, Outcome, gives, lineAt, entryAt, wordAt}
+use Rattle.machine.specs.State.{Caches, gives, lineAt, entryAt, wordAt}
 use Rattle.machine.specs.Own.{home, holds, findEntry}
 use Rattle.machine.specs.Rollback.{rollback}
 use Rattle.machine.specs.Bus.{clearLine, plainRequest}
 use Rattle.machine.specs.Load
-use Rattle.theory.specs.View.{LineState, valid, Back, bare, backup, Copy, none, regular, normal, tentative, above, isTentative, rolledBack}
-use Rattle.theory.proofs.Cache.{blank, filled, mainOn}
+use Rattle.theory.specs.View.{LineState, Back, bare, backup, Copy, none, regular, normal, tentative, above, isTentative, rolledBack}
+use Rattle.theory.proofs.Cache.{mainOn}
 use Rattle.theory.proofs.Slots.{look-none}
 use Rattle.theory.proofs.Lines.{lineIs}
 use Rattle.theory.proofs.Agree.{rolledBack-tentative}
-use Rattle.theory.specs.Bus.{Step, load-hit, load-back, load-miss, load-bare, Fetched, Plainly, reading, isRegular, isNormal, RolledBack}
+use Rattle.theory.specs.Bus.{load-hit, load-back, load-miss, load-bare, Fetched, Plainly, reading, isRegular, RolledBack}
 use Rattle.theory.proofs.Refine.{same-refl, freed-none}
 use Rattle.serial.specs.Shown.{byLoad}
-use Rattle.serial.proofs.Decode.{stateOf, lineOf, decoded, seen}
-use Rattle.serial.proofs.Frame.{LineFits, EntryFits, Fits}
-use Rattle.serial.proofs.Set.{Fit, lineOn, Memory, memory-same}
+use Rattle.serial.proofs.Decode.{stateOf, decoded, seen}
+use Rattle.serial.proofs.Frame.{LineFits, Fits}
+use Rattle.serial.proofs.Set.{Fit, Memory, memory-same}
 use Rattle.serial.proofs.Ends.{Does, rollback-fit, rollback-is}
 use Rattle.serial.proofs.Codes.{above-code, tagged-fits}
 use Rattle.serial.proofs.Find.{home-in, is-none, found-tag, found-word, entry-fits, backing, has-regular, no-regular, has-normal, has-tentative, no-normal, no-tentative}

@@ -3,7 +3,7 @@ use mathlib.Core.Path.{_≡_, refl, sym, _∙_, ap, subst⁻¹}
 use mathlib.Core.Logic.{_≢_, _⊎_, inl, inr}
 use mathlib.Core.Bool.{Bool, true, false}
 use mathlib.Core.List.{List}
-use Prim.Native.Nat.{ℕ, _+_, _≤_, _<_}
+use Prim.Native.Nat.{ℕ, _+_, _<_}
 use native.Mathlib.Decide.{ℕ-discrete}
 use native.Mathlib.Omega.{arith}
 use lib.Dec.{eqb, ltb}
@@ -12,32 +12,31 @@ use borrow.Author.Tests.{ltb-true, ltb-false}
 use Rattle.laws.specs.Choice.{pick}
 use Rattle.entry.specs.declared.Entry.{Entry}
 use Rattle.entry.specs.declared.answer.Answer.the-variants.{Aborted}
-use Rattle.entry.specs.declared.answer.Counts.{Counts}
-use Rattle.entry.specs.Numbers.{INVALID, VALID, RESERVED, DIRTY, BACKUP, TENTATIVE, LT, T-READ, T-RFO}
+use Rattle.entry.specs.Numbers.{INVALID, VALID, RESERVED, DIRTY, BACKUP, TENTATIVE, T-READ, T-RFO}
 use Rattle.entry.specs.Packing.{entry, noEntry, InRange}
 use Rattle.entry.specs.Answer.{asked, quiet}
 use Rattle.machine.specs.declared.Dims.{Dims}
-use Rattle.machine.specs.State.{Caches, caches, place, gives, Counted, counted, entryAt, withCopy, withEntry, wordAt}
+use Rattle.machine.specs.State.{Caches, caches, gives, counted, entryAt, withCopy, withEntry, wordAt}
 use Rattle.machine.specs.Own.{home, freeSlot}
 use Rattle.machine.specs.Rollback.{rollback}
 use Rattle.machine.specs.Bus.{writes, clearEntry, snoop, refuses}
-use Rattle.machine.specs.Transact.{requestOf, finish, busy, clearBackup, fillBackup, fill, request, missAt, miss}
+use Rattle.machine.specs.Transact.{finish, busy, clearBackup, fillBackup, fill, request, missAt, miss}
 use Rattle.theory.specs.View.{Back, bare, backup, none, tentative, View}
 use Rattle.theory.specs.Change.{At}
 use Rattle.theory.proofs.Moves.{at-trans}
-use Rattle.theory.proofs.Cache.{vacant, slotBackup, slotTentative, backOn}
+use Rattle.theory.proofs.Cache.{slotBackup, slotTentative, backOn}
 use Rattle.theory.proofs.Slots.{none-backs}
 use Rattle.theory.proofs.Updates.{AllTidy, SlotSet, entered, backs-up}
-use Rattle.theory.specs.Bus.{Kind, reading, owning, granted, Opened, Held, misses, no-room, no-grant, Freed, empty, Granted}
+use Rattle.theory.specs.Bus.{Kind, reading, owning, granted, Opened, misses, no-room, no-grant, Freed, empty}
 use Rattle.theory.proofs.Refine.{same-refl, freed-none}
 use Rattle.serial.specs.Shown.{byAccess}
 use Rattle.serial.specs.Taking.{valueEnd}
 use Rattle.serial.proofs.Decode.{stateOf, slotOf, decoded, seen, copy-here, copy-else}
-use Rattle.serial.proofs.Set.{Fit, Memory, memory-same, set-slot, entry-fit}
+use Rattle.serial.proofs.Set.{Fit, memory-same, set-slot, entry-fit}
 use Rattle.serial.proofs.Ends.{Does, rollback-is}
 use Rattle.serial.proofs.Find.{slot-at}
 use Rattle.serial.proofs.Others.{Cycle, is-busy}
-use Rattle.serial.proofs.Requests.{Served, by-leave, is-T-READ, is-T-RFO}
+use Rattle.serial.proofs.Requests.{by-leave, is-T-READ, is-T-RFO}
 use Rattle.serial.proofs.Lined.{own-copy}
 use Rattle.serial.proofs.Slotted.{sought, Emptied, emptied}
 use Rattle.serial.proofs.Access.{Access, lt, ltx, st, number, kind, denied, finished}

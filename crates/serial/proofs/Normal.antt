@@ -1,29 +1,29 @@
 -- LT, LTX and ST on a NORMAL entry: it becomes tentative, with a backup or, written back if DIRTY, without.
 use mathlib.Core.Path.{_≡_, refl, sym, _∙_, ap, subst, subst⁻¹}
-use mathlib.Core.Logic.{_≢_, inl, inr}
+use mathlib.Core.Logic.{_≢_, inr}
 use mathlib.Core.Bool.{Bool, true, false, true≢false, false≢true}
 use mathlib.Core.List.{List}
 use Prim.Native.Nat.{ℕ, _≤_, _<_}
 use native.Mathlib.Decide.{ℕ-discrete}
 use native.Mathlib.Omega.{arith}
 use lib.Dec.{eqb, ltb}
-use lib.ListN.{getD, set}
+use lib.ListN.{set}
 use lib.Seq.{set-set, set-comm}
-use borrow.Author.Tests.{eqb-true, eqb-false, ltb-true}
+use borrow.Author.Tests.{ltb-true}
 use Rattle.laws.specs.Choice.{pick}
 use Rattle.entry.specs.declared.Entry.{Entry}
 use Rattle.entry.specs.Numbers.{INVALID, RESERVED, DIRTY, NORMAL, BACKUP, TENTATIVE}
 use Rattle.entry.specs.Packing.{entry, noEntry, pack, InRange, unpack-range}
 use Rattle.entry.specs.Entry.{withTag, withState}
 use Rattle.machine.specs.declared.Dims.{Dims}
-use Rattle.machine.specs.State.{Caches, caches, place, entryAt, withCopy, withEntry, wordAt, Counted, counted}
+use Rattle.machine.specs.State.{Caches, caches, place, entryAt, withCopy, withEntry, counted}
 use Rattle.machine.specs.Own.{home, freeSlot}
 use Rattle.machine.specs.Bus.{writes, writtenBack, clearEntry}
 use Rattle.machine.specs.Transact.{openNormal}
-use Rattle.theory.specs.View.{LineState, valid, reserved, dirty, bare, backup, normal, tentative, isDirty, dried, wrote}
+use Rattle.theory.specs.View.{LineState, valid, reserved, dirty, bare, backup, normal, tentative, dried}
 use Rattle.theory.specs.Change.{At}
 use Rattle.theory.proofs.Moves.{at-trans}
-use Rattle.theory.proofs.Cache.{Slot, vacant, slotNormal, slotBackup, slotTentative, slotCopy, mainOn, backOn, tentOn, is-self, unbacked, main-tent, not-true}
+use Rattle.theory.proofs.Cache.{vacant, slotNormal, slotBackup, slotTentative, mainOn, backOn, tentOn, is-self, unbacked, main-tent, not-true}
 use Rattle.theory.proofs.Updates.{AllTidy, SlotSet, turned, backs-up}
 use Rattle.theory.specs.Bus.{Begun, with-backup, without}
 use Rattle.serial.specs.Taking.{valueEnd}

@@ -1,29 +1,26 @@
 -- Refusing the bus, and rolling other processors back, are the theory's.
 use mathlib.Core.Path.{_≡_, refl, sym, _∙_, ap}
-use mathlib.Core.Logic.{_≢_, _⊎_, inl, inr}
-use mathlib.Core.Bool.{Bool, true, false, not, true≢false, false≢true}
+use mathlib.Core.Logic.{_≢_, inl, inr}
+use mathlib.Core.Bool.{Bool, true, false, not, true≢false}
 use Prim.Native.Nat.{ℕ, zero, suc, _+_, _≤_, _<_}
-use native.Mathlib.Decide.{decLt}
 use native.Mathlib.Omega.{arith}
 use lib.Dec.{eqb, ltb, leb}
 use borrow.Author.Tests.{eqb-true, eqb-false, ne-eqb, ltb-true, ltb-false, not-true}
 use Rattle.laws.specs.Choice.{pick, both, either}
 use Rattle.laws.specs.Fold.{foldRange}
 use Rattle.laws.specs.Search.{firstFrom, first-has, first-not}
-use Rattle.entry.specs.Numbers.{INVALID, RESERVED, TENTATIVE}
-use Rattle.entry.specs.Packing.{unpack-range}
+use Rattle.entry.specs.Numbers.{RESERVED, TENTATIVE}
 use Rattle.entry.specs.Entry.{rolledBack, shares, takes}
 use Rattle.machine.specs.declared.Dims.{Dims}
-use Rattle.machine.specs.State.{Caches, entryAt, lineAt, place}
+use Rattle.machine.specs.State.{Caches, entryAt, lineAt}
 use Rattle.machine.specs.Own.{findEntry}
 use Rattle.machine.specs.Rollback.{rolledEntries, rollback}
 use Rattle.machine.specs.Bus.{opposes, otherOpposes, firstOpposing, refuses, rollOne, rollOthers}
 use Rattle.theory.specs.View.{Copy, none, regular, normal, tentative, isTentative, View}
 use Rattle.theory.specs.Bus.{Each, start, and-then, RollIf, spared, rolls-back, Kind, reading, owning, tentativeAbove, Busy, busy}
 use Rattle.theory.specs.Bus
-use Rattle.theory.proofs.Refine.{same-refl, refuses-none}
+use Rattle.theory.proofs.Refine.{same-refl}
 use Rattle.serial.proofs.Decode.{seen}
-use Rattle.serial.proofs.Frame.{EntryFits}
 use Rattle.serial.proofs.Set.{Fit}
 use Rattle.serial.proofs.Over.{over-else, range-rolled}
 use Rattle.serial.proofs.Ends.{rollback-fit, rollback-is}

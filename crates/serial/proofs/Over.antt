@@ -1,27 +1,26 @@
 -- Rollback and COMMIT: a change of all of a processor's entries, and of its flags.
 use mathlib.Core.Path.{_≡_, refl, sym, _∙_, ap, subst⁻¹}
 use mathlib.Core.Logic.{_≢_, _⊎_, inl, inr}
-use mathlib.Core.Bool.{Bool, true, false, not}
+use mathlib.Core.Bool.{Bool, true, false}
 use mathlib.Core.List.{List}
-use Prim.Native.Nat.{ℕ, _+_, _*_, _%_, _≤_, _<_}
+use Prim.Native.Nat.{ℕ, _+_, _≤_, _<_}
 use native.Mathlib.Decide.{ℕ-discrete, decLt}
 use native.Mathlib.Omega.{arith}
-use lib.Dec.{eqb, ltb}
-use lib.ListN.{length, getD, set, length-set}
-use lib.Seq.{getD-set-same, getD-set-other}
-use borrow.Author.Tests.{eqb-true, eqb-false, eq-eqb, ne-eqb, ltb-true, lt-ltb}
-use Rattle.laws.specs.Choice.{pick, both}
-use Rattle.laws.specs.Places.{applyFrom, apply-length, apply-other, apply-in}
+use lib.Dec.{eqb}
+use lib.ListN.{length, getD}
+use borrow.Author.Tests.{eqb-true}
+use Rattle.laws.specs.Choice.{pick}
+use Rattle.laws.specs.Places.{apply-length, apply-other, apply-in}
 use Rattle.entry.specs.declared.Entry.{Entry}
 use Rattle.entry.specs.Numbers.{NORMAL, BACKUP, TENTATIVE}
-use Rattle.entry.specs.Packing.{pack, unpack, noEntry, packedEnd, InRange, unpack-pack, unpack-range, pack-range}
+use Rattle.entry.specs.Packing.{unpack, noEntry, packedEnd, InRange, unpack-pack, unpack-range, pack-range}
 use Rattle.entry.specs.Entry.{rolledBack, committed}
 use Rattle.machine.specs.declared.Dims.{Dims}
-use Rattle.machine.specs.State.{place, copyAt, activePlace, statusPlace, falseFlag, trueFlag}
+use Rattle.machine.specs.State.{place, copyAt}
 use Rattle.machine.specs.Rollback.{repacked, overEntries}
-use Rattle.theory.proofs.Cache.{Slot, slotRollback, slotCommit}
+use Rattle.theory.proofs.Cache.{slotRollback, slotCommit}
 use Rattle.serial.proofs.Decode.{slotBy, slotOf}
-use Rattle.serial.proofs.Frame.{EntryFits, Fits, Copies, Flags}
+use Rattle.serial.proofs.Frame.{EntryFits, Fits, Copies}
 
 -- what the loop over p's n entries leaves
 module _ (f : Entry → Entry) (keeps : (e : Entry) → InRange e → InRange (f e)) (p n : ℕ) (lp : p < 8) (ln : n ≤ 64) (l : List ℕ) (len : length l ≡ 512) where

@@ -1,8 +1,8 @@
 -- The bus requests: every other processor is asked in turn. READ, RFO and WRITE roll back first; T_READ and T_RFO may be refused.
 use mathlib.Core.Path.{_≡_, refl, sym, _∙_, ap, subst⁻¹}
 use mathlib.Core.Logic.{_≢_, _⊎_, inl, inr}
-use mathlib.Core.Bool.{Bool, true, false, not, true≢false, false≢true}
-use Prim.Native.Nat.{ℕ, _+_, _≤_, _<_}
+use mathlib.Core.Bool.{Bool, true, false, true≢false, false≢true}
+use Prim.Native.Nat.{ℕ, _≤_, _<_}
 use native.Mathlib.Decide.{ℕ-discrete, decLt}
 use native.Mathlib.Omega.{arith}
 use lib.Dec.{eqb, ltb}
@@ -14,22 +14,20 @@ use Rattle.entry.specs.Numbers.{INVALID, NORMAL, TENTATIVE, READ, RFO, WRITE, T
 use Rattle.entry.specs.Packing.{unpack-range}
 use Rattle.entry.specs.Entry.{snooped}
 use Rattle.machine.specs.declared.Dims.{Dims}
-use Rattle.machine.specs.State.{Caches, place, lineAt, entryAt}
+use Rattle.machine.specs.State.{Caches, lineAt, entryAt}
 use Rattle.machine.specs.Own.{home, holds, hasLive, liveEntry}
 use Rattle.machine.specs.Bus.{writtenBack, snoopLine, snoopEntry, snoopOne, snoop, refuses, rollOthers, plainRequest}
-use Rattle.theory.specs.View.{Copy, none, regular, normal, tentative, View}
+use Rattle.theory.specs.View.{Copy, none, regular, normal, tentative}
 use Rattle.theory.proofs.Cache.{vacant, blank, mainOn, is-self, nowhere, looks}
-use Rattle.theory.proofs.Lines.{line-main}
 use Rattle.theory.proofs.Slots.{look-norm, look-tent}
-use Rattle.theory.specs.Bus.{Each, Snooped, own, other, Kind, reading, owning, snoops, supplied, isNormal, Plainly, Granted}
+use Rattle.theory.specs.Bus.{Each, Snooped, own, other, Kind, reading, owning, snoops, supplied, Plainly, Granted}
 use Rattle.theory.specs.Bus
 use Rattle.theory.proofs.Refine.{same-refl, cleared, refuses-roll, refuses-none}
 use Rattle.serial.proofs.Decode.{slotOf, lineOf, decoded, seen, read-out}
-use Rattle.serial.proofs.Frame.{EntryFits}
 use Rattle.serial.proofs.Set.{Fit, entryOn, lineOn}
-use Rattle.serial.proofs.Codes.{both-true, either-left, either-right, pick-no, Is, slot-normal, slot-tentative, tagged-fits}
-use Rattle.serial.proofs.Find.{is-none, entry-fits, slot-at, no-regular, slot-normal-at, slot-tentative-at}
-use Rattle.serial.proofs.Others.{Cycle, Own, own-refl, own-trans, each, is-free, Rolling, roll-others}
+use Rattle.serial.proofs.Codes.{both-true, either-left, either-right, pick-no, slot-normal, slot-tentative, tagged-fits}
+use Rattle.serial.proofs.Find.{entry-fits, slot-at, no-regular, slot-normal-at, slot-tentative-at}
+use Rattle.serial.proofs.Others.{Cycle, Own, own-refl, own-trans, each, is-free, roll-others}
 use Rattle.serial.proofs.Snoop.{left, snooped-is, Asks, refuses-left, Asked, nothing-asked, line-held, main, line-asked, normal-asked, tentative-asked}
 
 -- the search for a NORMAL or tentative entry

@@ -1,9 +1,9 @@
 -- One line or one entry is set, and one word of memory may change: what that is to the theory, and that the frame stays.
-use mathlib.Core.Path.{_≡_, refl, sym, _∙_, ap, subst}
+use mathlib.Core.Path.{_≡_, refl, sym, _∙_, subst}
 use mathlib.Core.Logic.{_≢_, _⊎_, inl, inr}
 use mathlib.Core.Bool.{Bool, true, false}
 use mathlib.Core.List.{List}
-use Prim.Native.Nat.{ℕ, _≤_, _<_}
+use Prim.Native.Nat.{ℕ, _<_}
 use native.Mathlib.Omega.{arith}
 use lib.Dec.{eqb}
 use lib.ListN.{length, getD, set}
@@ -14,15 +14,15 @@ use Rattle.entry.specs.declared.Entry.{Entry}
 use Rattle.entry.specs.Numbers.{RESERVED, DIRTY}
 use Rattle.entry.specs.Packing.{InRange}
 use Rattle.machine.specs.declared.Dims.{Dims}
-use Rattle.machine.specs.State.{Caches, caches, copyAt, withCopy, wordAt}
+use Rattle.machine.specs.State.{Caches, caches, withCopy, wordAt}
 use Rattle.machine.specs.Own.{home}
 use Rattle.machine.specs.Bus.{writtenBack}
-use Rattle.theory.specs.View.{LineState, valid, reserved, dirty, wrote}
+use Rattle.theory.specs.View.{valid, reserved, wrote}
 use Rattle.theory.proofs.Cache.{vacant, blank}
-use Rattle.theory.proofs.Updates.{State, AllTidy, SlotSet, LineSet}
+use Rattle.theory.proofs.Updates.{AllTidy, SlotSet, LineSet}
 use Rattle.serial.specs.Taking.{valueEnd}
 use Rattle.serial.proofs.Decode.{stateOf, slotOf, lineOf, decoded, read-here, read-else}
-use Rattle.serial.proofs.Frame.{LineFits, EntryFits, Fits, Copies, Words, Size, Frame, copies-set, words-set, words-back}
+use Rattle.serial.proofs.Frame.{LineFits, EntryFits, Fits, Words, Frame, copies-set, words-set, words-back}
 
 -- what every state of a run satisfies, whatever its copies say of one another's words
 pub record Fit (d : Dims) (s : Caches) : Type 0 where

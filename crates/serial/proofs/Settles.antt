@@ -1,32 +1,32 @@
 -- The machine's settled value is the plain memory's, wherever its view agrees with one.
 use mathlib.Core.Path.{_≡_, refl, sym, _∙_, ap}
-use mathlib.Core.Logic.{_≢_, _⊎_, inl, inr}
+use mathlib.Core.Logic.{_⊎_, inl, inr}
 use mathlib.Core.Bool.{Bool, true, false, not, true≢false, false≢true}
-use Prim.Native.Nat.{ℕ, _+_, _≤_, _<_}
+use Prim.Native.Nat.{ℕ, _≤_, _<_}
 use native.Mathlib.Decide.{decLt}
 use native.Mathlib.Omega.{arith}
 use lib.Dec.{eqb, ltb}
-use borrow.Author.Tests.{eqb-true, eqb-false, eq-eqb, ne-eqb, ltb-true, ltb-false, lt-ltb, le-ltb}
+use borrow.Author.Tests.{eqb-true, eq-eqb, ne-eqb, ltb-true, ltb-false, lt-ltb, le-ltb}
 use Rattle.laws.specs.Choice.{pick, both, either}
 use Rattle.laws.specs.Search.{firstFrom, first-has, first-not}
 use Rattle.entry.specs.declared.Entry.{Entry}
 use Rattle.entry.specs.Numbers.{INVALID, DIRTY, NORMAL, BACKUP}
 use Rattle.machine.specs.declared.Dims.{Dims}
-use Rattle.machine.specs.State.{Caches, place, lineAt, entryAt, wordAt}
+use Rattle.machine.specs.State.{Caches, lineAt, entryAt, wordAt}
 use Rattle.machine.specs.Own.{home, holds}
 use Rattle.machine.specs.Settled.{isSettling, hasSettling, settlingEntry, settles, settler, settledIn}
 use Rattle.machine.specs.Settled
-use Rattle.theory.specs.View.{LineState, Back, bare, backup, Copy, none, regular, normal, tentative, isDirty, owns, View}
+use Rattle.theory.specs.View.{bare, backup, Copy, none, regular, normal, tentative, isDirty, owns}
 use Rattle.theory.proofs.Slots.{look-norm}
 use Rattle.theory.proofs.Agree.{Agree}
 use Rattle.theory.proofs.Settled.{baseData, owns-data}
 use Rattle.theory.specs.Bus.{isRegular}
 use Rattle.serial.proofs.Decode.{stateOf, decoded, seen}
 use Rattle.serial.proofs.Set.{Fit}
-use Rattle.serial.proofs.Codes.{both-true, both-left, both-right, either-left, either-right, dirty-code, Is, slot-normal}
+use Rattle.serial.proofs.Codes.{both-true, both-left, both-right, either-left, either-right, dirty-code, slot-normal}
 use Rattle.serial.proofs.Find.{slot-at, has-regular, no-regular, has-normal}
 use Rattle.serial.proofs.Requests.{beyond}
-use Rattle.serial.proofs.Under.{Behind, behind, has-backup}
+use Rattle.serial.proofs.Under.{behind, has-backup}
 
 -- the copy that settles w for q, the word's line first
 abbrev pub chosen : Dims → ℕ → Caches → ℕ → ℕ

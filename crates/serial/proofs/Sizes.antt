@@ -5,7 +5,7 @@ use Prim.Native.Nat.{ℕ, _≤_, _<_}
 use native.Mathlib.Omega.{arith}
 use lib.Dec.{eqb, leb}
 use borrow.Author.Tests.{eqb-true, leb-true}
-use Rattle.laws.specs.Choice.{pick, both, either}
+use Rattle.laws.specs.Choice.{pick, either}
 use Rattle.machine.specs.declared.Dims.{Dims}
 use Rattle.machine.specs.Making.{within, powerOfTwo, dimsRefusal}
 use Rattle.machine.specs.Refusals.{accepted, badProcessors, badWords, badLines, badEntries}

@@ -1,21 +1,21 @@
 -- A slot of a processor's transactional cache: what the slot search finds, and that freeing it is the theory's.
 use mathlib.Core.Path.{_≡_, refl, sym, _∙_, ap}
-use mathlib.Core.Logic.{_≢_, _⊎_, inl, inr}
+use mathlib.Core.Logic.{_≢_, inl, inr}
 use mathlib.Core.Bool.{Bool, true, false, not}
 use mathlib.Core.List.{List}
-use Prim.Native.Nat.{ℕ, _+_, _≤_, _<_}
+use Prim.Native.Nat.{ℕ, _<_}
 use native.Mathlib.Decide.{ℕ-discrete}
 use native.Mathlib.Omega.{arith}
 use lib.Dec.{eqb, ltb}
 use lib.ListN.{getD}
-use borrow.Author.Tests.{eqb-true, eqb-false, ltb-true, not-true}
-use Rattle.laws.specs.Choice.{pick, both}
+use borrow.Author.Tests.{eqb-true, eqb-false, not-true}
+use Rattle.laws.specs.Choice.{pick}
 use Rattle.laws.specs.Search.{firstFrom, first-has}
 use Rattle.entry.specs.declared.Entry.{Entry}
 use Rattle.entry.specs.Numbers.{INVALID, NORMAL, BACKUP, TENTATIVE}
-use Rattle.entry.specs.Packing.{noEntry, InRange, unpack-range}
+use Rattle.entry.specs.Packing.{noEntry, unpack-range}
 use Rattle.machine.specs.declared.Dims.{Dims}
-use Rattle.machine.specs.State.{Caches, place, entryAt, wordAt}
+use Rattle.machine.specs.State.{Caches, entryAt, wordAt}
 use Rattle.machine.specs.Own.{home, isFree, lowest, freeSlot}
 use Rattle.machine.specs.Bus.{writtenBack, clearEntry}
 use Rattle.theory.specs.View.{wrote}
@@ -24,8 +24,8 @@ use Rattle.theory.proofs.Updates.{AllTidy, SlotSet, normal-out, backup-out, unm
 use Rattle.theory.specs.Bus.{Freed, empty}
 use Rattle.serial.proofs.Decode.{stateOf, slotOf, decoded, seen, copy-here, copy-else}
 use Rattle.serial.proofs.Frame.{EntryFits, Fits, fits-word}
-use Rattle.serial.proofs.Set.{Fit, entryOn, Memory, back-at, back-here, set-slot, entry-fit}
-use Rattle.serial.proofs.Codes.{both-left, both-right, normal-slot, backup-slot, tagged-fits}
+use Rattle.serial.proofs.Set.{Fit, Memory, back-at, back-here, set-slot, entry-fit}
+use Rattle.serial.proofs.Codes.{both-left, both-right, normal-slot, backup-slot}
 use Rattle.serial.proofs.Find.{entry-fits, slot-at}
 use Rattle.serial.proofs.Lined.{none-range, back-none}
 

@@ -1,39 +1,35 @@
 -- What a request does to another processor's copy of its word.
-use mathlib.Core.Path.{_≡_, refl, sym, _∙_, ap, subst, subst⁻¹}
-use mathlib.Core.Logic.{_≢_, _⊎_, inl, inr}
+use mathlib.Core.Path.{_≡_, refl, sym, _∙_, ap, subst}
+use mathlib.Core.Logic.{_≢_, inl, inr}
 use mathlib.Core.Bool.{Bool, true, false, not, true≢false, false≢true}
-use mathlib.Core.List.{List}
-use Prim.Native.Nat.{ℕ, _≤_, _<_}
-use native.Mathlib.Decide.{ℕ-discrete}
+use Prim.Native.Nat.{ℕ, _<_}
 use native.Mathlib.Omega.{arith}
-use lib.Dec.{eqb, ltb, leb}
+use lib.Dec.{eqb}
 use lib.ListN.{getD}
-use borrow.Author.Tests.{eqb-true, eqb-false, eq-eqb, ltb-true, ltb-false, not-true, leb-false}
-use Rattle.laws.specs.Choice.{pick, both, either}
-use Rattle.laws.specs.Search.{firstFrom, first-has, first-not}
+use borrow.Author.Tests.{eqb-true, eqb-false, not-true, leb-false}
+use Rattle.laws.specs.Choice.{pick, either}
 use Rattle.entry.specs.declared.Entry.{Entry}
 use Rattle.entry.specs.Numbers.{INVALID, VALID, RESERVED, DIRTY, NORMAL, TENTATIVE}
-use Rattle.entry.specs.Packing.{entry, noEntry, InRange, same-entry, unpack-range}
-use Rattle.entry.specs.Entry.{withState, shared, snooped, takes, isLive}
+use Rattle.entry.specs.Packing.{noEntry, InRange, same-entry}
+use Rattle.entry.specs.Entry.{withState, shared, snooped, takes}
 use Rattle.machine.specs.declared.Dims.{Dims}
-use Rattle.machine.specs.State.{Caches, caches, place, lineAt, entryAt, withCopy, wordAt}
-use Rattle.machine.specs.Own.{home, holds, hasLive, liveEntry}
-use Rattle.machine.specs.Bus.{writtenBack, snoopLine, snoopEntry, snoopOne, snoop}
-use Rattle.theory.specs.View.{LineState, valid, reserved, dirty, Copy, none, regular, normal, tentative, above, wrote, isTentative, View}
+use Rattle.machine.specs.State.{Caches, lineAt, entryAt, wordAt}
+use Rattle.machine.specs.Own.{home, holds}
+use Rattle.machine.specs.Bus.{writtenBack}
+use Rattle.theory.specs.View.{valid, Copy, none, regular, normal, tentative, wrote, View}
 use Rattle.theory.specs.Change.{At, Same}
-use Rattle.theory.proofs.Cache.{Slot, vacant, slotNormal, slotTentative, slotCopy, filled, mainOn, is-self, back-is, not-true as isnt}
-use Rattle.theory.proofs.Slots.{look-none}
+use Rattle.theory.proofs.Cache.{Slot, slotNormal, slotCopy, filled, mainOn, is-self, back-is}
 use Rattle.theory.proofs.Lines.{lineIs, line-main}
 use Rattle.theory.proofs.Updates.{AllTidy, SlotSet, LineSet, lined, line-in, line-out, turned, normal-gone, unmoved}
-use Rattle.theory.specs.Bus.{Each, Snooped, own, other, Kind, reading, owning, snoops, supplied, tentativeAbove}
+use Rattle.theory.specs.Bus.{Kind, reading, owning, snoops, supplied}
 use Rattle.theory.specs.Bus
 use Rattle.theory.proofs.Refine.{same-refl}
 use Rattle.serial.proofs.Decode.{stateOf, slotOf, lineOf, decoded, seen, copy-else}
 use Rattle.serial.proofs.Frame.{LineFits, EntryFits, Fits, fits-word, line-word}
 use Rattle.serial.proofs.Set.{Fit, entryOn, lineOn, Memory, back-at, back-here, set-slot, set-line, entry-fit, line-fit}
-use Rattle.serial.proofs.Codes.{both-true, both-left, both-right, normal-slot, tentative-slot, filled-line, above-code, tagged-fits}
-use Rattle.serial.proofs.Find.{home-in, is-none, backing, entry-fits, line-fits, line-filled, has-regular, no-regular, slot-at, slot-normal-at, has-normal, slot-tentative-at, has-tentative}
-use Rattle.serial.proofs.Others.{Cycle, Own, own-refl, own-trans, each}
+use Rattle.serial.proofs.Codes.{both-left, both-right, normal-slot, above-code, tagged-fits}
+use Rattle.serial.proofs.Find.{home-in, backing, entry-fits, line-fits, line-filled, has-regular, slot-at, slot-normal-at, has-normal, has-tentative}
+use Rattle.serial.proofs.Others.{Cycle, Own, own-refl}
 
 -- what a copy becomes
 abbrev pub left : Kind → Entry → Entry

@@ -1,31 +1,29 @@
 -- A sound state is coherent, as the theory says it.
 use mathlib.Core.Path.{_≡_, refl, sym, _∙_, ap, subst}
 use mathlib.Core.Logic.{_≢_, _⊎_, inl, inr}
-use mathlib.Core.Bool.{Bool, true, false, true≢false, false≢true}
-use Prim.Native.Nat.{ℕ, _≤_, _<_}
+use mathlib.Core.Bool.{true, false, true≢false, false≢true}
+use Prim.Native.Nat.{ℕ, _<_}
 use native.Mathlib.Decide.{decLt}
 use native.Mathlib.Omega.{arith}
-use lib.Dec.{eqb, leb}
 use borrow.Author.Tests.{eqb-false, lt-ltb, leb-true}
 use Rattle.entry.specs.declared.Entry.{Entry}
-use Rattle.entry.specs.Numbers.{INVALID, RESERVED, DIRTY, BACKUP, TENTATIVE}
+use Rattle.entry.specs.Numbers.{RESERVED, DIRTY}
 use Rattle.entry.specs.Packing.{InRange, unpack-range}
 use Rattle.machine.specs.declared.Dims.{Dims}
-use Rattle.machine.specs.State.{Caches, place, lineAt, entryAt, wordAt}
+use Rattle.machine.specs.State.{Caches, lineAt, entryAt, wordAt}
 use Rattle.machine.specs.Sound.{Sound, Copy}
-use Rattle.theory.specs.View.{LineState, Back, bare, backup, none, regular, normal, tentative, above, isDirty, has, exclusive, isTentative}
+use Rattle.theory.specs.View.{LineState, bare, backup, none, regular, normal, tentative, above, isDirty, has, exclusive, isTentative}
 use Rattle.theory.specs.View
 use Rattle.theory.specs.Change.{Live}
 use Rattle.theory.proofs.Settled.{Coherent, agrees, ordered, coarse}
 use Rattle.serial.specs.Taking.{valueEnd}
 use Rattle.serial.proofs.Decode.{stateOf, seen}
-use Rattle.serial.proofs.Frame.{EntryFits}
 use Rattle.serial.proofs.Set.{Fit}
 use Rattle.serial.proofs.Codes.{above-code, dirty-code, tagged-fits}
 use Rattle.serial.proofs.Find.{entry-fits}
 use Rattle.serial.proofs.Requests.{beyond}
 use Rattle.serial.proofs.SoundFit.{sound-fit}
-use Rattle.serial.proofs.Under.{Main, mainState, mainData, exclusive-main, main-entry, tentative-entry, Behind, behind, below-code}
+use Rattle.serial.proofs.Under.{Main, mainState, mainData, exclusive-main, main-entry, tentative-entry, behind, below-code}
 
 -- what a copy unpacks to is in range
 pub copy-range : {s : Caches} {p : ℕ} {e : Entry} → Copy s p e → InRange e

@@ -1,23 +1,21 @@
 -- A sound state is fit: what document 01's clauses say of each place, and of the copies within a processor.
 use mathlib.Core.Path.{_≡_, refl, sym, _∙_, ap}
 use mathlib.Core.Logic.{_≢_, _⊎_, inl, inr}
-use mathlib.Core.Bool.{Bool, true, false, true≢false, false≢true}
-use Prim.Native.Nat.{ℕ, _%_, _≤_, _<_}
+use mathlib.Core.Bool.{Bool, true, false, false≢true}
+use Prim.Native.Nat.{ℕ, _≤_, _<_}
 use native.Mathlib.Decide.{ℕ-discrete, decLt}
 use native.Mathlib.Omega.{arith}
 use lib.Dec.{eqb}
-use lib.ListN.{length, getD, List·getD-eq-default}
+use lib.ListN.{getD, List·getD-eq-default}
 use borrow.Author.Tests.{eqb-true, eqb-false}
 use Rattle.laws.specs.Choice.{pick}
 use Rattle.entry.specs.declared.Entry.{Entry}
 use Rattle.entry.specs.Numbers.{INVALID, NORMAL, BACKUP, TENTATIVE}
-use Rattle.entry.specs.Packing.{noEntry}
 use Rattle.machine.specs.declared.Dims.{Dims}
-use Rattle.machine.specs.State.{Caches, place, lineAt, entryAt, wordAt}
+use Rattle.machine.specs.State.{Caches, lineAt, entryAt, wordAt}
 use Rattle.machine.specs.Own.{home}
-use Rattle.machine.specs.Sound.{Sound, Copy, Tentative}
+use Rattle.machine.specs.Sound.{Sound, Copy}
 use Rattle.theory.proofs.Cache.{vacant, blank, filled, is-self, is-true, mainOn, backOn, tentOn, regOn, Tidy, not-true}
-use Rattle.theory.proofs.Updates.{AllTidy}
 use Rattle.serial.specs.Taking.{valueEnd}
 use Rattle.serial.proofs.Decode.{stateOf, slotBy, slotOf, lineOf, decoded, read-at, read-out}
 use Rattle.serial.proofs.Frame.{LineFits, EntryFits, Fits, Size, Frame}

@@ -1,9 +1,9 @@
 -- LT, LTX and ST whole, and every step by its number: each is a step of the theory, and leaves the state fit.
-use mathlib.Core.Path.{_≡_, refl, sym, _∙_, ap}
-use mathlib.Core.Bool.{Bool, true, false, false≢true, true≢false}
-use Prim.Native.Nat.{ℕ, zero, suc, _+_, _≤_, _<_}
+use mathlib.Core.Path.{_≡_, refl, sym, _∙_}
+use mathlib.Core.Bool.{Bool, true, false, true≢false}
+use Prim.Native.Nat.{ℕ, zero, suc, _≤_, _<_}
 use native.Mathlib.Omega.{arith}
-use lib.Dec.{eqb, ltb, leb}
+use lib.Dec.{ltb, leb}
 use borrow.Author.Tests.{ltb-true, ltb-false, le-leb}
 use Rattle.laws.specs.Choice.{pick}
 use Rattle.entry.specs.declared.answer.Answer.the-variants.{Aborted}

@@ -1,40 +1,39 @@
 -- STORE is the theory's.
-use mathlib.Core.Path.{_≡_, refl, sym, _∙_, ap}
-use mathlib.Core.Logic.{_≢_, inl, inr}
+use mathlib.Core.Path.{_≡_, refl, _∙_, ap}
+use mathlib.Core.Logic.{_≢_, inl}
 use mathlib.Core.Bool.{Bool, true, false, not}
-use mathlib.Core.List.{List}
-use Prim.Native.Nat.{ℕ, _≤_, _<_}
+use Prim.Native.Nat.{ℕ, _<_}
 use native.Mathlib.Omega.{arith}
-use lib.Dec.{eqb, leb, ltb}
-use lib.ListN.{getD, set}
+use lib.Dec.{eqb, ltb}
+use lib.ListN.{set}
 use lib.Seq.{getD-set-same}
 use borrow.Author.Tests.{eqb-true, eqb-false, ltb-true, ltb-false, le-leb, not-true}
-use Rattle.laws.specs.Choice.{pick, both}
+use Rattle.laws.specs.Choice.{pick}
 use Rattle.entry.specs.declared.Entry.{Entry}
 use Rattle.entry.specs.declared.answer.Answer.the-variants.{Done}
 use Rattle.entry.specs.Numbers.{INVALID, VALID, RESERVED, DIRTY, NORMAL, TENTATIVE, RFO, WRITE}
 use Rattle.entry.specs.Packing.{entry, noEntry, InRange, unpack-range}
 use Rattle.entry.specs.Answer.{quiet}
 use Rattle.machine.specs.declared.Dims.{Dims}
-use Rattle.machine.specs.State.{Caches, place, Outcome, gives, Counted, counted, lineAt, entryAt, withLine}
+use Rattle.machine.specs.State.{Caches, gives, counted, lineAt, entryAt, withLine}
 use Rattle.machine.specs.Own.{home, holds, findEntry}
 use Rattle.machine.specs.Rollback.{rollback}
 use Rattle.machine.specs.Bus.{writes, writtenBack, clearLine, clearEntry, plainRequest}
 use Rattle.machine.specs.Store
-use Rattle.theory.specs.View.{valid, Copy, none, regular, normal, above, isTentative, View}
+use Rattle.theory.specs.View.{none, regular, normal, isTentative, View}
 use Rattle.theory.specs.Change.{At}
-use Rattle.theory.proofs.Cache.{vacant, blank, filled, mainOn}
+use Rattle.theory.proofs.Cache.{filled, mainOn}
 use Rattle.theory.proofs.Slots.{look-none}
 use Rattle.theory.proofs.Lines.{lineIs, line-main}
-use Rattle.theory.proofs.Updates.{AllTidy, SlotSet, normal-gone}
+use Rattle.theory.proofs.Updates.{AllTidy, normal-gone}
 use Rattle.theory.proofs.Agree.{rolledBack-tentative}
-use Rattle.theory.specs.Bus.{Step, store-hit, store-through, store-miss, Plainly, owning, isNormal, Unheld, un-tent, re-tent, Unnormal, un-norm, re-norm}
+use Rattle.theory.specs.Bus.{store-hit, store-through, store-miss, Plainly, owning, isNormal, Unheld, un-tent, re-tent, Unnormal, un-norm, re-norm}
 use Rattle.theory.proofs.Refine.{same-refl, freed-none}
 use Rattle.serial.specs.Shown.{byStore}
 use Rattle.serial.specs.Taking.{valueEnd}
-use Rattle.serial.proofs.Decode.{stateOf, slotOf, decoded, seen}
+use Rattle.serial.proofs.Decode.{stateOf, decoded, seen}
 use Rattle.serial.proofs.Frame.{LineFits, Fits, fits-word}
-use Rattle.serial.proofs.Set.{Fit, entryOn, Memory, memory-same, memory-set, back-at, back-here, set-slot, entry-fit}
+use Rattle.serial.proofs.Set.{Fit, Memory, memory-same, memory-set, back-at, back-here, set-slot, entry-fit}
 use Rattle.serial.proofs.Ends.{Does, rollback-fit, rollback-is}
 use Rattle.serial.proofs.Codes.{both-left, above-code}
 use Rattle.serial.proofs.Find.{home-in, is-none, found-tag, found-word, entry-fits, line-filled, has-regular, no-regular, slot-normal-at, has-tentative, no-normal, no-tentative}

@@ -1,25 +1,23 @@
 -- The entries behind what a view shows of a processor's word, and what a view shows of a held line or entry.
-use mathlib.Core.Path.{_≡_, refl, sym, _∙_, ap, subst}
-use mathlib.Core.Logic.{_≢_, _⊎_, inl, inr}
+use mathlib.Core.Path.{_≡_, refl, sym, _∙_, ap}
+use mathlib.Core.Logic.{_≢_, inl, inr}
 use mathlib.Core.Bool.{Bool, true, false, not, true≢false, false≢true}
 use Prim.Native.Nat.{ℕ, zero, suc, _≤_, _<_}
 use native.Mathlib.Omega.{arith}
 use lib.Dec.{eqb}
-use borrow.Author.Tests.{eq-eqb, ne-eqb, eqb-false}
-use Rattle.laws.specs.Choice.{pick, both}
+use borrow.Author.Tests.{eq-eqb, ne-eqb}
 use Rattle.entry.specs.declared.Entry.{Entry}
 use Rattle.entry.specs.Numbers.{INVALID, DIRTY, NORMAL, BACKUP, TENTATIVE}
 use Rattle.machine.specs.declared.Dims.{Dims}
-use Rattle.machine.specs.State.{Caches, place, lineAt, entryAt}
-use Rattle.machine.specs.Own.{home, holds}
+use Rattle.machine.specs.State.{Caches, lineAt, entryAt}
+use Rattle.machine.specs.Own.{home}
 use Rattle.machine.specs.Sound
-use Rattle.theory.specs.View.{LineState, valid, reserved, dirty, Back, bare, backup, Copy, none, regular, normal, tentative, above, below, isDirty, has, exclusive}
-use Rattle.theory.proofs.Cache.{Slot, vacant, slotNormal, slotBackup, slotTentative, slotBack, backOn, tentOn, regOn, is-self, is-true, Backs, backed, unbacked, looks, in-slot}
+use Rattle.theory.specs.View.{LineState, valid, Back, backup, Copy, none, regular, normal, tentative, above, below, has, exclusive}
+use Rattle.theory.proofs.Cache.{Slot, vacant, slotNormal, slotBackup, slotTentative, slotBack, tentOn, regOn, is-self, is-true, Backs, backed, unbacked}
 use Rattle.theory.proofs.Slots.{look-norm, look-tent, look-reg, look-tentative}
-use Rattle.serial.proofs.Decode.{stateOf, slotOf, lineOf, decoded, seen}
-use Rattle.serial.proofs.Frame.{EntryFits}
+use Rattle.serial.proofs.Decode.{stateOf, decoded, seen}
 use Rattle.serial.proofs.Set.{Fit}
-use Rattle.serial.proofs.Codes.{both-true, backup-slot, tagged-fits, Is, slot-normal, slot-backup, slot-tentative}
+use Rattle.serial.proofs.Codes.{both-true, backup-slot, tagged-fits, Is, slot-normal, slot-tentative}
 use Rattle.serial.proofs.Find.{home-in, entry-fits, slot-at, line-at, has-regular}
 use Rattle.serial.proofs.SoundFit.{line-says, backup-says}
 

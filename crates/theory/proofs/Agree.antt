@@ -1,13 +1,12 @@
 -- Coherence, and that every silent move and every event keeps it.
-use mathlib.Core.Path.{_≡_, refl, sym, _∙_, ap}
+use mathlib.Core.Path.{_≡_, refl, sym, _∙_}
 use mathlib.Core.Logic.{_≢_}
-use mathlib.Core.Bool.{Bool, true, false, true≢false, false≢true}
-use mathlib.Core.List.{List, [], _∷_}
+use mathlib.Core.Bool.{true, false, true≢false}
 use Prim.Native.Nat.{ℕ}
 use native.Mathlib.Decide.{ℕ-discrete}
-use Rattle.theory.specs.View.{LineState, valid, reserved, dirty, Back, bare, backup, Copy, none, regular, normal, tentative, above, isDirty, isTentative, exclusive, fine, ownValue, rolledBack, committed, Word, View}
-use Rattle.theory.proofs.OneWord.{Move, Low, Alone, moved, tstored, stored, rolled, committedWord, drop-reg, drop-norm, drop-back, lower-reg, lower-norm, begin-kept, begin-bare, fill-reg, fill-tent, fill-kept, own-reg, own-tent, own-kept, upgrade}
-use Rattle.theory.specs.Change.{Live, At, OnlyProcessor, same, Same}
+use Rattle.theory.specs.View.{bare, backup, Copy, none, regular, normal, tentative, isTentative, ownValue, rolledBack, committed, Word, View}
+use Rattle.theory.proofs.OneWord.{Move, Low, Alone, moved, rolled, committedWord, drop-reg, drop-norm, drop-back, lower-reg, lower-norm, begin-kept, begin-bare, fill-reg, fill-tent, fill-kept, own-reg, own-tent, own-kept, upgrade}
+use Rattle.theory.specs.Change.{Live, At, OnlyProcessor, same}
 use Rattle.theory.proofs.Moves.{Silent, still, move, rollback, wake}
 
 -- the view agrees with one memory of settled values

@@ -1,18 +1,16 @@
 -- Coherence is kept from any coherent view, in the middle of transactions too, where no log is known.
-use mathlib.Core.Path.{_≡_, refl, sym, _∙_, ap}
-use mathlib.Core.Logic.{_≢_}
-use mathlib.Core.Bool.{Bool, true, false, true≢false, false≢true}
-use mathlib.Core.List.{List, [], _∷_}
-use Prim.Native.Nat.{ℕ, _≤_}
-use Rattle.theory.specs.View.{regular, isTentative, isDirty, ownValue, View}
-use Rattle.theory.proofs.OneWord.{Alone, tstored, stored, released}
+use mathlib.Core.Path.{refl, sym, _∙_}
+use mathlib.Core.Bool.{true≢false}
+use mathlib.Core.List.{List}
+use Prim.Native.Nat.{ℕ}
+use Rattle.theory.specs.View.{ownValue, View}
+use Rattle.theory.proofs.OneWord.{tstored, stored, released}
 use Rattle.theory.specs.Log.{put}
 use Rattle.theory.proofs.Logs.{put-here, put-else}
 use Rattle.theory.specs.Event.{Event}
-use Rattle.theory.specs.Change.{At}
-use Rattle.theory.proofs.Moves.{Silent, still, Shown, loads, stores, writes, treads, twrites, releases, commits, drops, Run, done, quietly, showing}
+use Rattle.theory.proofs.Moves.{still, Shown, loads, stores, writes, treads, twrites, releases, commits, drops, Run, done, quietly, showing}
 use Rattle.theory.proofs.Agree.{Agree, agree-at, agree-silent, agree-commit, agree-flags}
-use Rattle.theory.proofs.Settled.{Coherent, Within, coarse, coherent→agree, agree→coherent, settled}
+use Rattle.theory.proofs.Settled.{Coherent, Within, coarse, coherent→agree, agree→coherent}
 use Rattle.theory.specs.Bus.{Step}
 use Rattle.theory.proofs.Refine.{step-run}
 

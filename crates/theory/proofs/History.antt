@@ -1,6 +1,6 @@
 -- THE THEOREM for document 01's steps: what a machine of n processors answers, from fresh, the plain machine answers.
-use mathlib.Core.Path.{_≡_, refl}
-use mathlib.Core.List.{List, [], _∷_, _++_}
+use mathlib.Core.Path.{_≡_}
+use mathlib.Core.List.{List, [], _++_}
 use Prim.Native.Nat.{ℕ}
 use Rattle.theory.specs.View.{View}
 use Rattle.theory.specs.Event.{Event}

@@ -1,19 +1,19 @@
 -- Every run of the view's moves and events is a run of the plain machine: the invariant and the theorem.
-use mathlib.Core.Path.{_≡_, refl, sym, _∙_, ap, subst}
+use mathlib.Core.Path.{_≡_, refl, sym, _∙_}
 use mathlib.Core.Logic.{_≢_}
-use mathlib.Core.Bool.{Bool, true, false, true≢false, false≢true}
+use mathlib.Core.Bool.{true, false, true≢false, false≢true}
 use mathlib.Core.List.{List, [], _∷_}
 use Prim.Native.Nat.{ℕ}
 use native.Mathlib.Decide.{ℕ-discrete}
-use Rattle.theory.specs.View.{LineState, valid, reserved, dirty, Back, bare, backup, Copy, none, regular, normal, tentative, above, isDirty, isTentative, exclusive, owns, fine, ownValue, rolledBack, committed, Word, View}
-use Rattle.theory.proofs.OneWord.{Move, Low, Alone, moved, tstored, stored, low-cell, alone-low, released, dry-value, drop-reg, drop-norm, drop-back, lower-reg, lower-norm, begin-kept, begin-bare, fill-reg, fill-tent, fill-kept, own-reg, own-tent, own-kept, upgrade}
-use Rattle.theory.specs.Event.{Event, load, store, tread, twrite, commit, drop, release}
-use Rattle.theory.specs.Change.{Live, At, OnlyProcessor, same, Same}
+use Rattle.theory.specs.View.{LineState, valid, reserved, dirty, Copy, none, regular, normal, tentative, isDirty, isTentative, exclusive, owns, fine, ownValue, Word, View}
+use Rattle.theory.proofs.OneWord.{Move, Alone, tstored, stored, low-cell, alone-low, released, dry-value, drop-reg, drop-norm, drop-back, lower-reg, lower-norm, begin-kept, begin-bare, fill-reg, fill-tent, fill-kept, own-reg, own-tent, own-kept, upgrade}
+use Rattle.theory.specs.Event.{Event, store, tread}
+use Rattle.theory.specs.Change.{At}
 use Rattle.theory.proofs.Moves.{Silent, still, move, rollback, wake, sees, Shown, loads, stores, writes, treads, twrites, releases, commits, drops, Run, done, quietly, showing}
-use Rattle.theory.specs.Log.{put, Item, read, write, replay, Replays, forget}
-use Rattle.theory.proofs.Logs.{put-here, put-at, put-else, Good, good-copies, good-memory, good-empty, good-read, good-write, plain-tv, unstored, good-forget, Keeps}
-use Rattle.theory.specs.Plain.{Plain, withLog, next, Agrees, Serial, Sees, Opaque, after}
-use Rattle.theory.proofs.Agree.{Agree, agree-at, agree-silent, agree-commit, agree-flags, rolledBack-tentative, committed-tentative}
+use Rattle.theory.specs.Log.{put, Item, read, write, replay, forget}
+use Rattle.theory.proofs.Logs.{put-here, put-else, Good, good-copies, good-memory, good-empty, good-read, good-write, plain-tv, unstored, good-forget, Keeps}
+use Rattle.theory.specs.Plain.{Plain, next, Agrees, Serial, Sees, Opaque, after}
+use Rattle.theory.proofs.Agree.{Agree, agree-at, agree-silent, agree-commit, agree-flags, committed-tentative}
 
 pub record Inv (S : View) (P : Plain) : Type 0 where
   pub agree : Agree S (P .val)

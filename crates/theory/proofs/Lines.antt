@@ -1,12 +1,11 @@
 -- A change of one line of the regular cache.
-use mathlib.Core.Path.{_≡_, refl, sym, _∙_, ap}
-use mathlib.Core.Logic.{_≢_, _⊎_, inl, inr}
-use mathlib.Core.Bool.{Bool, true, false, true≢false, false≢true}
+use mathlib.Core.Path.{_≡_, refl, sym, _∙_}
+use mathlib.Core.Logic.{_≢_, inl, inr}
+use mathlib.Core.Bool.{true, false, true≢false}
 use Prim.Native.Nat.{ℕ, _<_}
 use native.Mathlib.Decide.{ℕ-discrete}
-use Rattle.theory.specs.View.{LineState, Copy, none, regular}
-use Rattle.theory.proofs.Cache.{Slot, Line, blank, filled, is, is-self, is-other, is-true, mainOn, backOn, tentOn, regOn, regCopy, Has, in-line, in-slot, nowhere, look, Tidy, looks, LineCalm, look-calm, not-true}
-use Rattle.theory.proofs.Slots.{look-none}
+use Rattle.theory.specs.View.{LineState, none, regular}
+use Rattle.theory.proofs.Cache.{Slot, Line, blank, filled, is-self, is-other, mainOn, regOn, in-line, nowhere, look, Tidy, looks, LineCalm, look-calm, not-true}
 
 abbrev pub lineIs : ℕ → Line → Type 0
 lineIs u blank = Unit {0}

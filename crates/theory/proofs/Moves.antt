@@ -1,12 +1,11 @@
 -- What a machine may do, as its view sees it: silent moves, and the events that a program can observe.
 -- A step of a machine is any number of silent moves and then one event (or none).
-use mathlib.Core.Path.{_≡_, refl, _∙_}
-use mathlib.Core.Logic.{_≢_}
+use mathlib.Core.Path.{_≡_, _∙_}
 use mathlib.Core.Bool.{Bool, true, false}
 use mathlib.Core.List.{List, [], _∷_}
 use Prim.Native.Nat.{ℕ}
 use Rattle.theory.specs.Event.{Event, load, store, tread, twrite, release, commit, drop}
-use Rattle.theory.specs.View.{LineState, valid, reserved, dirty, Back, Copy, none, regular, normal, tentative, above, isDirty, isTentative, rolledBack, committed, View}
+use Rattle.theory.specs.View.{LineState, dirty, Back, Copy, none, regular, normal, tentative, above, isDirty, isTentative, rolledBack, committed, View}
 use Rattle.theory.specs.Change.{Live, At, OnlyProcessor, same, Same}
 use Rattle.theory.proofs.OneWord.{Move, Low, Alone}
 

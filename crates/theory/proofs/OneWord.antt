@@ -1,10 +1,10 @@
 -- One word: what a change of one processor's copy asks, and that each small operation meets it.
-use mathlib.Core.Path.{_≡_, refl, sym, _∙_, ap, subst, subst⁻¹}
+use mathlib.Core.Path.{_≡_, refl, sym, _∙_}
 use mathlib.Core.Logic.{_≢_, _⊎_, inl, inr}
 use mathlib.Core.Bool.{Bool, true, false, true≢false, false≢true}
 use Prim.Native.Nat.{ℕ}
 use native.Mathlib.Decide.{ℕ-discrete}
-use Rattle.theory.specs.View.{wrote, dried, isStored, has, LineState, valid, reserved, dirty, Back, bare, backup, Copy, none, regular, normal, tentative, above, isDirty, below, isTentative, exclusive, backDirty, owns, fineBack, fine, ownValue, backRolled, rolledBack, committed, Word}
+use Rattle.theory.specs.View.{wrote, dried, has, LineState, valid, reserved, dirty, Back, bare, backup, Copy, none, regular, normal, tentative, above, isDirty, below, exclusive, backDirty, owns, fineBack, fine, ownValue, rolledBack, committed, Word}
 
 pub changed : {m m′ x x′ : ℕ} {c c′ : ℕ → Copy} {p : ℕ} {k : Copy}
     → Word m c x

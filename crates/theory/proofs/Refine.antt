@@ -1,14 +1,14 @@
 -- Each of document 01's steps is a run of silent moves and what it shows.
 use mathlib.Core.Path.{_≡_, refl, sym, _∙_, ap}
 use mathlib.Core.Logic.{_≢_, _⊎_, inl, inr}
-use mathlib.Core.Bool.{Bool, true, false, true≢false, false≢true}
+use mathlib.Core.Bool.{Bool, true, false, true≢false}
 use mathlib.Core.List.{List, [], _∷_}
-use Prim.Native.Nat.{ℕ, zero, suc, _≤_, _<_}
+use Prim.Native.Nat.{ℕ, suc, _≤_, _<_}
 use native.Mathlib.Decide.{ℕ-discrete, decLt}
 use native.Mathlib.Omega.{arith}
-use Rattle.theory.specs.View.{LineState, valid, reserved, dirty, Back, bare, backup, Copy, none, regular, normal, tentative, above, isDirty, wrote, dried, isTentative, exclusive, rolledBack, committed, View}
-use Rattle.theory.proofs.OneWord.{Move, Low, Alone, drop-reg, drop-norm, drop-back, lower-reg, lower-norm, begin-kept, begin-bare, fill-reg, fill-tent, fill-kept, own-reg, own-tent, own-kept, upgrade, not-up}
-use Rattle.theory.specs.Event.{Event, load, store, tread, twrite, commit, drop}
+use Rattle.theory.specs.View.{LineState, valid, reserved, dirty, Back, bare, backup, Copy, none, regular, normal, tentative, above, isTentative, exclusive, rolledBack, View}
+use Rattle.theory.proofs.OneWord.{Low, Alone, drop-reg, drop-norm, drop-back, lower-reg, lower-norm, begin-kept, begin-bare, fill-reg, fill-tent, fill-kept, own-tent, own-kept, upgrade, not-up}
+use Rattle.theory.specs.Event.{Event, load, drop}
 use Rattle.theory.specs.Change.{Live, At, OnlyProcessor, same, Same}
 use Rattle.theory.proofs.Moves.{Silent, still, move, rollback, wake, sees, Shown, loads, stores, writes, treads, twrites, commits, drops, Run, done, quietly, showing, run-then, run-one}
 use Rattle.theory.proofs.Agree.{Agree, rolledBack-tentative}

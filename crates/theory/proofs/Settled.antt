@@ -1,18 +1,18 @@
 -- The settled value of a word as a function, coherence as document 01 lists it, and that the two make `Agree`.
-use mathlib.Core.Path.{_≡_, refl, sym, _∙_, ap, subst}
+use mathlib.Core.Path.{_≡_, refl, sym, _∙_}
 use mathlib.Core.Logic.{_≢_}
 use mathlib.Core.Bool.{Bool, true, false, cond, true≢false, false≢true}
-use mathlib.Core.List.{List, [], _∷_}
+use mathlib.Core.List.{List}
 use Prim.Native.Nat.{ℕ, zero, suc, _≤_, _<_}
 use native.Mathlib.Decide.{ℕ-discrete, decLt}
 use native.Mathlib.Omega.{arith}
-use Rattle.theory.specs.View.{LineState, valid, reserved, dirty, Back, bare, backup, Copy, none, regular, normal, tentative, above, isDirty, below, isTentative, exclusive, backDirty, owns, fineBack, fine, has, Word, View}
-use Rattle.theory.proofs.OneWord.{owns-excl, dry-back, dry-value, below-up, below-dry, wet-up, not-up}
+use Rattle.theory.specs.View.{LineState, Back, bare, backup, Copy, none, regular, normal, tentative, above, isDirty, below, isTentative, exclusive, owns, fineBack, fine, has, Word, View}
+use Rattle.theory.proofs.OneWord.{owns-excl, dry-back, dry-value, below-up, below-dry, wet-up}
 use Rattle.theory.specs.Event.{Event}
 use Rattle.theory.specs.Change.{Live}
-use Rattle.theory.proofs.Moves.{Silent, Shown, Run}
-use Rattle.theory.proofs.Logs.{Good, good-empty}
-use Rattle.theory.specs.Plain.{Plain, Serial, Opaque, after, unlogged}
+use Rattle.theory.proofs.Moves.{Silent, Run}
+use Rattle.theory.proofs.Logs.{good-empty}
+use Rattle.theory.specs.Plain.{Serial, Opaque, after, unlogged}
 use Rattle.theory.proofs.Agree.{Agree, agree-silent}
 use Rattle.theory.proofs.Invariant.{Inv, serial}
 

@@ -1,12 +1,11 @@
 -- A change of one slot or of one line: what the processor then holds of each word.
-use mathlib.Core.Path.{_≡_, refl, sym, _∙_, ap}
+use mathlib.Core.Path.{_≡_, refl, sym, _∙_}
 use mathlib.Core.Logic.{_≢_, _⊎_, inl, inr}
 use mathlib.Core.Bool.{Bool, true, false, true≢false, false≢true}
-use Prim.Native.Nat.{ℕ, zero, suc, _≤_, _<_}
-use native.Mathlib.Decide.{ℕ-discrete, decLt}
-use native.Mathlib.Omega.{arith}
-use Rattle.theory.specs.View.{LineState, valid, reserved, dirty, Back, bare, backup, Copy, none, regular, normal, tentative, rolledBack, committed}
-use Rattle.theory.proofs.Cache.{Slot, vacant, slotNormal, slotBackup, slotTentative, Line, blank, filled, is, is-self, is-other, is-true, mainOn, backOn, tentOn, regOn, regCopy, slotCopy, slotBack, Backs, backed, unbacked, Has, in-line, in-slot, nowhere, backOf, look, back-is, look-is, Tidy, looks, Off, Calm, LineCalm, carry, carry-back, look-calm, tidy-shrink, main-tent, not-true}
+use Prim.Native.Nat.{ℕ, _<_}
+use native.Mathlib.Decide.{ℕ-discrete}
+use Rattle.theory.specs.View.{LineState, Back, bare, backup, Copy, none, regular, normal, tentative}
+use Rattle.theory.proofs.Cache.{Slot, vacant, slotNormal, slotBackup, slotTentative, Line, blank, filled, is-self, is-other, is-true, mainOn, backOn, tentOn, regOn, regCopy, slotCopy, Backs, backed, unbacked, Has, in-line, in-slot, nowhere, backOf, look, back-is, look-is, Tidy, looks, Off, Calm, look-calm, tidy-shrink, main-tent, not-true}
 
 -- a slot that has nothing of any word but u
 abbrev pub Of : ℕ → Slot → Type 0

@@ -1,16 +1,15 @@
 -- A machine with slots and lines, and what its elementary changes are on the view. S and S′ are compared place by place, so that
 -- any layout of the state can be read as a `State`.
-use mathlib.Core.Path.{_≡_, refl, sym, _∙_, ap, fun-ext}
-use mathlib.Core.Logic.{_≢_, _⊎_, inl, inr}
-use mathlib.Core.Bool.{Bool, true, false, true≢false, false≢true}
-use Prim.Native.Nat.{ℕ, zero, suc, _≤_, _<_}
-use native.Mathlib.Decide.{ℕ-discrete, decLt}
-use native.Mathlib.Omega.{arith}
-use Rattle.theory.specs.View.{LineState, valid, reserved, dirty, Back, bare, backup, Copy, none, regular, normal, tentative, above, isDirty, wrote, dried, isTentative, rolledBack, committed, View}
-use Rattle.theory.specs.Change.{Live, At, OnlyProcessor, same, Same}
-use Rattle.theory.proofs.Cache.{Slot, vacant, slotNormal, slotBackup, slotTentative, Line, blank, filled, is-self, mainOn, backOn, tentOn, regOn, slotCopy, slotRollback, slotCommit, Backs, backed, unbacked, look, Tidy, look-calm, tidy-shrink, tidy-settle, look-settle, tidy-roll, look-roll}
-use Rattle.theory.proofs.Slots.{wordIs, look-none, look-normal, look-tentative, look-else, tidy-out, look-out, tidy-backout, look-backout, tidy-turn, look-turn, tidy-in, look-in, tidy-back, look-back}
-use Rattle.theory.proofs.Lines.{lineIs, tidy-line, line-else, line-main, look-line, look-blank, look-filled}
+use mathlib.Core.Path.{_≡_, refl, sym, _∙_, fun-ext}
+use mathlib.Core.Logic.{_≢_, inl}
+use mathlib.Core.Bool.{Bool, true, false}
+use Prim.Native.Nat.{ℕ, _<_}
+use native.Mathlib.Decide.{ℕ-discrete}
+use Rattle.theory.specs.View.{LineState, Back, bare, backup, Copy, none, regular, normal, tentative, wrote, rolledBack, committed, View}
+use Rattle.theory.specs.Change.{At, OnlyProcessor, same, Same}
+use Rattle.theory.proofs.Cache.{Slot, vacant, slotNormal, slotBackup, slotTentative, Line, blank, filled, mainOn, backOn, tentOn, slotCopy, slotRollback, slotCommit, Backs, look, Tidy, look-calm, tidy-shrink, tidy-settle, look-settle, tidy-roll, look-roll}
+use Rattle.theory.proofs.Slots.{wordIs, look-normal, look-else, tidy-out, look-out, tidy-backout, look-backout, tidy-turn, look-turn, tidy-in, look-in, tidy-back, look-back}
+use Rattle.theory.proofs.Lines.{lineIs, tidy-line, line-else, look-blank, look-filled}
 use Rattle.theory.specs.Bus
 
 pub record State : Type 0 where
