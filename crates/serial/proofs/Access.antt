@@ -57,7 +57,8 @@ module _ {d : Dims} {s : Caches} (F : Fit d s) (p : ℕ) (lp : p < d .processors
   pub held : entryAt s p i .state ≢ INVALID
   held = tagged-fits (entry-fits F p lp i li) (λ z. omega arith) .held
 
-  pub copy-is : seen d s .copy w p ≡ tentative (stateOf (entryAt s p i .state)) (entryAt s p i .«data») (backing F p lp w) (eqb (entryAt s p i .state) DIRTY)
+  pub copy-is : seen d s .copy w p ≡ tentative (stateOf (entryAt s p i .state)) (entryAt s p i .«data») (backing F p lp w)
+      (eqb (entryAt s p i .state) DIRTY)
   copy-is = has-tentative F p lp w i li (entryAt s p i) refl hw ht
 
   -- it becomes another tentative entry of the same word
@@ -93,7 +94,8 @@ module _ {d : Dims} {s : Caches} (F : Fit d s) (p : ℕ) (lp : p < d .processors
 
 module _ {d : Dims} (a : Access) (p : ℕ) (lp : p < d .processors) (w v : ℕ) (lv : v < valueEnd) {S S₁ : View} (O : Opened p w S S₁) where
   -- p is rolled back
-  pub denied : {s : Caches} → Fit d s → (c : Counts) → Denied (kind a) p w S₁ (seen d (rollback d p s)) → Does d S (byAccess p w v) (gives Aborted c (rollback d p s))
+  pub denied : {s : Caches} → Fit d s → (c : Counts) → Denied (kind a) p w S₁ (seen d (rollback d p s))
+      → Does d S (byAccess p w v) (gives Aborted c (rollback d p s))
   denied F c D = record { fit = rollback-fit F p lp; step = fails (kind a) O D }
 
   -- p holds w tentatively, at i: the answer, or the store
@@ -155,7 +157,8 @@ module _ {d : Dims} (p : ℕ) (lp : p < d .processors) (w v : ℕ) (lv : v < val
           let back : backing F₂ p lp w ≡ backing F p lp w =
           ap (λ (f : ℕ → Slot). backOf (d .entries) (home d) f (decoded d s₂ .line p) w) (fun-ext (own-slot (F .frame .size) p (g .0 .own))) ∙
           ap (λ (f : ℕ → Line). backOf (d .entries) (home d) (decoded d s .slot p) f w) (fun-ext (own-line (F .frame .size) p (g .0 .own))) in
-          finished a p lp w v lv O (turn-fit F₂ p lp w i li ht₂ hw₂ RESERVED x l nr lx) i li (ap (λ (e : Entry). e .tag) z) (ap (λ (e : Entry). e .word) z)
+          finished a p lp w v lv O (turn-fit F₂ p lp w i li ht₂ hw₂ RESERVED x l nr lx) i li (ap (λ (e : Entry). e .tag) z)
+          (ap (λ (e : Entry). e .word) z)
           (asked T-RFO n 0) (raises was (g .1) (k .1) (k .2 ∙ ap (λ (b : Back). tentative reserved x b false) back) refl)
 
       by : (b : Bool) → refuses d p w T-RFO (s .entries) ≡ b
@@ -165,7 +168,8 @@ module _ {d : Dims} (p : ℕ) (lp : p < d .processors) (w v : ℕ) (lv : v < val
       by false h =
           subst⁻¹ (λ (e : Entry). Does d S (byAccess p w v) (finish (number a) p i v (asked T-RFO n 0) (withEntry s₂ p i e))) raised (granted h)
 
-  silent-does : (a : Access) → (n : ℕ) → enough (kind a) (stateOf (entryAt s p i .state)) ≡ true → Does d S (byAccess p w v) (finish (number a) p i v (quiet n) s)
+  silent-does : (a : Access) → (n : ℕ) → enough (kind a) (stateOf (entryAt s p i .state)) ≡ true
+      → Does d S (byAccess p w v) (finish (number a) p i v (quiet n) s)
   silent-does a n h = finished a p lp w v lv O F i li ht hw (quiet n) (has-it (copy-is F p lp w i li ht hw) h same-refl)
 
   -- LTX and ST

@@ -126,7 +126,8 @@ module _ (d : Dims) (p w : ℕ) where
         let t = clearEntry s p i in
         let b = freeSlot (t .entries) p (d .entries) i in
         let one = one-write (entryAt s p i) in
-        let two = counted-most (ltb b (d .entries)) (counted (writes (entryAt t p b)) (clearEntry t p b)) (counted 0 t) (one-write (entryAt t p b)) (omega arith) in
+        let two = counted-most (ltb b (d .entries)) (counted (writes (entryAt t p b)) (clearEntry t p b)) (counted 0 t) (one-write (entryAt t p b))
+        (omega arith) in
         either-way (ltb i (d .entries)) _ _ (request-bound a i b _ _ (omega arith)) (quietly n (omega arith))
 
     open-most : (j : ℕ) (s : Caches) → openNormal d p j s .writes ≤ 1
@@ -141,7 +142,8 @@ module _ (d : Dims) (p w : ℕ) where
         let j = findEntry (s .entries) p (d .entries) NORMAL w in
         let o = open-most j s in
         either-way (ltb i (d .entries)) _ _ (hit-bound (number a) i (k .writes) 0 s (omega arith))
-        (either-way (ltb j (d .entries)) _ _ (hit-bound (number a) j (k .writes) (openNormal d p j s .writes) (openNormal d p j s .after) (omega arith))
+        (either-way (ltb j (d .entries)) _ _
+        (hit-bound (number a) j (k .writes) (openNormal d p j s .writes) (openNormal d p j s .after) (omega arith))
         (access-miss-bound a (k .writes) s l))
 
     transact-bound : (a : Access) (s : Caches) → Within (transact d (number a) p w v s)
@@ -149,7 +151,8 @@ module _ (d : Dims) (p w : ℕ) where
     transact-bound a s =
         let t = begun p s in
         either-way (TSTATUS t p) _ _
-        (seek-bound a (dropLine d p w t) (counted-most (holds (lineAt t p (home d w)) w) _ _ (one-write (lineAt t p (home d w))) (omega arith))) nothing
+        (seek-bound a (dropLine d p w t) (counted-most (holds (lineAt t p (home d w)) w) _ _ (one-write (lineAt t p (home d w))) (omega arith)))
+        nothing
 
 pub step-bound : (d : Dims) (op p w v : ℕ) (s : Caches) → Bounded (takeStep d op p w v s .told .counts)
 unfolding takeStep commit abort validate interrupt

@@ -56,7 +56,8 @@ module _ (e : Entry) where
   pub filled-line : e .state ≢ INVALID → lineOf e ≡ filled (stateOf (e .state)) (e .word) (e .«data»)
   filled-line n = by (eqb (e .state) INVALID) refl
     where
-      by : (b : Bool) → eqb (e .state) INVALID ≡ b → pick b blank (filled (stateOf (e .state)) (e .word) (e .«data»)) ≡ filled (stateOf (e .state)) (e .word) (e .«data»)
+      by : (b : Bool) → eqb (e .state) INVALID ≡ b
+          → pick b blank (filled (stateOf (e .state)) (e .word) (e .«data»)) ≡ filled (stateOf (e .state)) (e .word) (e .«data»)
       by true h = absurd (n (eqb-true (e .state) INVALID h))
       by false h = refl
 

@@ -41,7 +41,8 @@ pub record Does (d : Dims) (S : View) (es : Answer → List Event) (r : Outcome)
 module _ {d : Dims} {s : Caches} (F : Fit d s) (p : ℕ) (lp : p < d .processors) where
   -- p's entries by g, and p's flags
   module _ (g : Entry → Entry) (range : (e : Entry) → InRange e → InRange (g e))
-      (h : Slot → Slot) (gh : (e : Entry) → slotOf (g e) ≡ h (slotOf e)) {a b : Bool} {fs : List ℕ} (T : FlagsTo (d .processors) p a b (s .flags) fs) where
+      (h : Slot → Slot) (gh : (e : Entry) → slotOf (g e) ≡ h (slotOf e)) {a b : Bool} {fs : List ℕ}
+      (T : FlagsTo (d .processors) p a b (s .flags) fs) where
     abbrev pub mapped : Caches
     mapped = caches (s .memory) (s .lines) (overEntries g p (d .entries) (s .entries)) fs
 
@@ -49,12 +50,15 @@ module _ {d : Dims} {s : Caches} (F : Fit d s) (p : ℕ) (lp : p < d .processors
     maps = record {
       here = λ i li.
           read-at slotOf vacant (d .processors) (d .entries) (overEntries g p (d .entries) (s .entries)) p i lp li ∙
-          (ap slotOf (over-in g range p (d .entries) (omega (arith, F .frame .size .processors)) (F .frame .size .entries) (s .entries) (F .frame .entries .long) i li) ∙
+          (ap slotOf
+          (over-in g range p (d .entries) (omega (arith, F .frame .size .processors)) (F .frame .size .entries) (s .entries)
+          (F .frame .entries .long) i li) ∙
           (gh (copyAt (s .entries) p i) ∙ ap h (sym (read-at slotOf vacant (d .processors) (d .entries) (s .entries) p i lp li))));
       slots = λ q j n lj.
           read-same slotOf vacant (d .processors) (d .entries) (s .entries) (overEntries g p (d .entries) (s .entries)) q j
           (λ lq l.
-          over-else g range p (d .entries) (omega (arith, F .frame .size .processors)) (F .frame .size .entries) (s .entries) (F .frame .entries .long) q j
+          over-else g range p (d .entries) (omega (arith, F .frame .size .processors)) (F .frame .size .entries) (s .entries)
+          (F .frame .entries .long) q j
           (omega (arith, F .frame .size .processors)) (omega (arith, F .frame .size .entries)) (inl n));
       lines = λ q i. refl;
       mems = λ u. refl;
@@ -68,7 +72,8 @@ module _ {d : Dims} {s : Caches} (F : Fit d s) (p : ℕ) (lp : p < d .processors
       memory = F .frame .memory;
       lines = F .frame .lines;
       entries =
-          over-copies g range p (d .entries) (omega (arith, F .frame .size .processors)) (F .frame .size .entries) (s .entries) (F .frame .entries .long)
+          over-copies g range p (d .entries) (omega (arith, F .frame .size .processors)) (F .frame .size .entries) (s .entries)
+          (F .frame .entries .long)
           (F .frame .entries) fits;
       flags = T .frame;
     }
@@ -82,7 +87,8 @@ module _ {d : Dims} {s : Caches} (F : Fit d s) (p : ℕ) (lp : p < d .processors
   pub rollback-fit : Fit d (rollback d p s)
   unfolding rolledEntries
   rollback-fit = record {
-    frame = mapped-frame rolledBack range-rolled slotRollback slot-rolled (down (F .frame .flags) (F .frame .size .processors) p lp) (λ i e. fits-rolled e);
+    frame = mapped-frame rolledBack range-rolled slotRollback slot-rolled (down (F .frame .flags) (F .frame .size .processors) p lp)
+        (λ i e. fits-rolled e);
     tidy = rolls .0;
   }
 

@@ -52,7 +52,8 @@ module _ (s : Caches) (p n tag w : ℕ) where
   unfolding findEntry
   found-none l i li ht hw =
       true≢false
-      (sym (both-true (eqb (entryAt s p i .tag) tag) (eqb (entryAt s p i .word) w) (eq-eqb (entryAt s p i .tag) tag ht) (eq-eqb (entryAt s p i .word) w hw)) ∙
+      (sym (both-true (eqb (entryAt s p i .tag) tag) (eqb (entryAt s p i .word) w) (eq-eqb (entryAt s p i .tag) tag ht)
+      (eq-eqb (entryAt s p i .word) w hw)) ∙
       first-not (hasEntry (s .entries) p tag w) 0 n i (omega arith) (omega arith))
 
 module _ {d : Dims} {s : Caches} (F : Fit d s) (p : ℕ) (lp : p < d .processors) where
@@ -79,8 +80,10 @@ module _ {d : Dims} {s : Caches} (F : Fit d s) (p : ℕ) (lp : p < d .processors
     line-filled e q h =
         line-at w ∙
         (ap lineOf q ∙
-        (filled-line e (eqb-false (e .state) INVALID (not-true (eqb (e .state) INVALID) (both-left (not (eqb (e .state) INVALID)) (eqb (e .word) w) h))) ∙
-        ap (λ (u : ℕ). filled (stateOf (e .state)) u (e .«data»)) (eqb-true (e .word) w (both-right (not (eqb (e .state) INVALID)) (eqb (e .word) w) h))))
+        (filled-line e
+        (eqb-false (e .state) INVALID (not-true (eqb (e .state) INVALID) (both-left (not (eqb (e .state) INVALID)) (eqb (e .word) w) h))) ∙
+        ap (λ (u : ℕ). filled (stateOf (e .state)) u (e .«data»))
+        (eqb-true (e .word) w (both-right (not (eqb (e .state) INVALID)) (eqb (e .word) w) h))))
 
     pub has-regular : (e : Entry) → lineAt s p (home d w) ≡ e → holds e w ≡ true → seen d s .copy w p ≡ regular (stateOf (e .state)) (e .«data»)
     has-regular e q h =

@@ -76,7 +76,8 @@ module _ {d : Dims} {s : Caches} (F : Fit d s) (C : Coherent (d .processors) (se
           has-regular F p (f .processor) w e (ap (lineAt s p) (f .at-home))
           (both-true (not (eqb (e .state) INVALID)) (eqb (e .word) w) (ap not (ne-eqb (e .state) INVALID (f .held))) (eq-eqb (e .word) w refl))
 
-  main-shows : (p i : ℕ) → EntryFits d p i (entryAt s p i) → (entryAt s p i .tag ≡ NORMAL) ⊎ (entryAt s p i .tag ≡ TENTATIVE) → Shows (seen d s) p (entryAt s p i)
+  main-shows : (p i : ℕ) → EntryFits d p i (entryAt s p i) → (entryAt s p i .tag ≡ NORMAL) ⊎ (entryAt s p i .tag ≡ TENTATIVE)
+      → Shows (seen d s) p (entryAt s p i)
   main-shows p i f (inl t) =
       let was = has-normal F p (f .processor) (entryAt s p i .word) i (f .slot) (entryAt s p i) refl refl t in
       record {
@@ -98,7 +99,9 @@ module _ {d : Dims} {s : Caches} (F : Fit d s) (C : Coherent (d .processors) (se
       let was = b .3 in
       record {
         present = rw was;
-        owned = λ h. rw was (below-up (stateOf (entryAt s p i .state)) (b .0) (above-of (entryAt s p i) (omega arith) (f .held) h) (rw was at (C .order (entryAt s p i .word) p)));
+        owned = λ h. rw was
+            (below-up (stateOf (entryAt s p i .state)) (b .0) (above-of (entryAt s p i) (omega arith) (f .held) h)
+            (rw was at (C .order (entryAt s p i .word) p)));
         checked = λ n. (rw was at (C .equal (entryAt s p i .word) p)) .1 (clean-state (entryAt s p i .state) n);
       }
 
@@ -140,14 +143,16 @@ module _ {d : Dims} {s : Caches} (F : Fit d s) (C : Coherent (d .processors) (se
       by (inr q) = sym q ∙ zero-fits (entry-each p (c .slot) lp (c .inside)) (λ f. f .held) (ap (λ (x : Entry). x .state) q ∙ z)
 
   -- claims of slots, for the clauses on one processor
-  main-on : (p i : ℕ) (f : EntryFits d p i (entryAt s p i)) → entryAt s p i .tag ≢ BACKUP → (w : ℕ) → entryAt s p i .word ≡ w → mainOn w (decoded d s .slot p i) ≡ true
+  main-on : (p i : ℕ) (f : EntryFits d p i (entryAt s p i)) → entryAt s p i .tag ≢ BACKUP → (w : ℕ) → entryAt s p i .word ≡ w
+      → mainOn w (decoded d s .slot p i) ≡ true
   main-on p i f n w e = by (tag-of (entryAt s p i .tag) (omega arith) (f .tag) n)
     where
       by : (entryAt s p i .tag ≡ NORMAL) ⊎ (entryAt s p i .tag ≡ TENTATIVE) → mainOn w (decoded d s .slot p i) ≡ true
       by (inl t) = rw (slot-at F p (f .processor) i (f .slot), normal-slot (entryAt s p i) t, e) (is-self w)
       by (inr t) = rw (slot-at F p (f .processor) i (f .slot), tentative-slot (entryAt s p i) t, e) (is-self w)
 
-  back-on : (p i : ℕ) (f : EntryFits d p i (entryAt s p i)) → entryAt s p i .tag ≡ BACKUP → (w : ℕ) → entryAt s p i .word ≡ w → backOn w (decoded d s .slot p i) ≡ true
+  back-on : (p i : ℕ) (f : EntryFits d p i (entryAt s p i)) → entryAt s p i .tag ≡ BACKUP → (w : ℕ) → entryAt s p i .word ≡ w
+      → backOn w (decoded d s .slot p i) ≡ true
   back-on p i f t w e = rw (slot-at F p (f .processor) i (f .slot), backup-slot (entryAt s p i) t, e) (is-self w)
 
   line-of : (p i : ℕ) → p < 8 → i < 64 → Held (lineAt s p i) → LineFits d p i (lineAt s p i)
@@ -213,7 +218,8 @@ module _ {d : Dims} {s : Caches} (F : Fit d s) (C : Coherent (d .processors) (se
   pub fit-sound : dimsRefusal d ≡ accepted → Sound d s
   unfolding home
   fit-sound dims = record {
-    lengths = record { memory = F .frame .memory .long; lines = F .frame .lines .long; entries = F .frame .entries .long; flags = F .frame .flags .long };
+    lengths =
+        record { memory = F .frame .memory .long; lines = F .frame .lines .long; entries = F .frame .entries .long; flags = F .frame .flags .long };
     dimensions = dims;
     line-inside = λ p i lp li h. let f = line-of p i lp li h in (f .processor, f .slot);
     entry-inside = λ p i lp li h. let f = entry-of p i lp li h in (f .processor, f .slot);
@@ -230,11 +236,13 @@ module _ {d : Dims} {s : Caches} (F : Fit d s) (C : Coherent (d .processors) (se
     one-main = λ p i j lp li lj h h′ n n′ e.
         let f = entry-of p i lp li h in
         let g = entry-of p j lp lj h′ in
-        F .tidy p .mains (entryAt s p i .word) i j (f .slot) (g .slot) (main-on p i f n (entryAt s p i .word) refl) (main-on p j g n′ (entryAt s p i .word) (sym e));
+        F .tidy p .mains (entryAt s p i .word) i j (f .slot) (g .slot) (main-on p i f n (entryAt s p i .word) refl)
+        (main-on p j g n′ (entryAt s p i .word) (sym e));
     one-backup = λ p i j lp li lj h h′ t t′ e.
         let f = entry-of p i lp li h in
         let g = entry-of p j lp lj h′ in
-        F .tidy p .backs (entryAt s p i .word) i j (f .slot) (g .slot) (back-on p i f t (entryAt s p i .word) refl) (back-on p j g t′ (entryAt s p i .word) (sym e));
+        F .tidy p .backs (entryAt s p i .word) i j (f .slot) (g .slot) (back-on p i f t (entryAt s p i .word) refl)
+        (back-on p j g t′ (entryAt s p i .word) (sym e));
     backup-needs = backup-needs;
     tentative-flags = tentative-flags;
     exclusive = exclusive-clause;

@@ -32,7 +32,11 @@ use Rattle.serial.proofs.Requests.{beyond}
 use Rattle.serial.proofs.FitSound.{fit-sound}
 
 zeros : (k i : ℕ) → getD (replicate k falseFlag) i 0 ≡ 0
-zeros k i = elim (decLt i k) [ yes l ↦ getD-replicate k i falseFlag 0 l | no l ↦ List·getD-eq-default (replicate k falseFlag) 0 {n = i} (omega (arith, length-replicate k falseFlag)) ]
+zeros k i = elim (decLt i k) [
+  | yes l ↦ getD-replicate k i falseFlag 0 l
+  | no l ↦ List·getD-eq-default (replicate k falseFlag) 0 {n = i}
+      (omega (arith, length-replicate k falseFlag))
+]
 
 -- what follows a list
 skip : (xs ys : List ℕ) (n : ℕ) → getD (xs ++ ys) (length xs + n) 0 ≡ getD ys n 0
@@ -40,7 +44,9 @@ skip [] ys n = rw zero-add
 skip (x ∷ xs) ys n = rw suc-add (skip xs ys n)
 
 past : (l : List ℕ) (k i : ℕ) → length l ≤ i → getD (l ++ replicate k 0) i 0 ≡ 0
-past l k i h = let e : i ≡ length l + (i - length l) = omega arith in ap (λ (j : ℕ). getD (l ++ replicate k 0) j 0) e ∙ (skip l (replicate k 0) (i - length l) ∙ zeros k (i - length l))
+past l k i h =
+    let e : i ≡ length l + (i - length l) = omega arith in
+    ap (λ (j : ℕ). getD (l ++ replicate k 0) j 0) e ∙ (skip l (replicate k 0) (i - length l) ∙ zeros k (i - length l))
 
 empty-list : (Ok : ℕ → ℕ → Entry → Type 0) → Copies Ok (replicate 512 0)
 empty-list Ok = record {
@@ -71,7 +77,8 @@ module _ (d : Dims) (memory : List ℕ) (dims : dimsRefusal d ≡ accepted) (lon
 
   active-at : (p : ℕ) → getD (freshFlags (d .processors)) (activePlace p) 0 ≡ 0
   active-at p =
-      List·getD-append (replicate 8 falseFlag) (padded 8 (replicate (d .processors) trueFlag)) 0 (activePlace p) (omega (arith, length-replicate 8 falseFlag)) ∙
+      List·getD-append (replicate 8 falseFlag) (padded 8 (replicate (d .processors) trueFlag)) 0 (activePlace p)
+      (omega (arith, length-replicate 8 falseFlag)) ∙
       getD-replicate 8 (activePlace p) falseFlag 0 (omega arith)
 
   status-at : (p : ℕ) → p < 8 → getD (freshFlags (d .processors)) (statusPlace p) 0 ≡ getD (padded 8 (replicate (d .processors) trueFlag)) p 0
@@ -87,7 +94,8 @@ module _ (d : Dims) (memory : List ℕ) (dims : dimsRefusal d ≡ accepted) (lon
 
   off-at : (p : ℕ) → d .processors ≤ p → getD (padded 8 (replicate (d .processors) trueFlag)) p 0 ≡ 0
   off-at p l =
-      past (replicate (d .processors) trueFlag) (8 - length (replicate (d .processors) trueFlag)) p (omega (arith, length-replicate (d .processors) trueFlag))
+      past (replicate (d .processors) trueFlag) (8 - length (replicate (d .processors) trueFlag)) p
+      (omega (arith, length-replicate (d .processors) trueFlag))
 
   flags : Flags (d .processors) (freshFlags (d .processors))
   flags = record {
@@ -103,7 +111,8 @@ module _ (d : Dims) (memory : List ℕ) (dims : dimsRefusal d ≡ accepted) (lon
         );
     codes = λ p l. (
       omega (arith, active-at p),
-      elim (decLt p (d .processors)) [ yes h ↦ omega (arith, status-at p l, up-at p h) | no h ↦ omega (arith, status-at p l, off-at p (omega arith)) ],
+      elim (decLt p (d .processors))
+          [ yes h ↦ omega (arith, status-at p l, up-at p h) | no h ↦ omega (arith, status-at p l, off-at p (omega arith)) ],
     );
     past = λ p l h. (active-at p, status-at p l ∙ off-at p h);
   }
@@ -148,7 +157,8 @@ module _ (d : Dims) (memory : List ℕ) (dims : dimsRefusal d ≡ accepted) (lon
       (nowhere (rw (lines p (home d w))) (λ i l. rw (slots p i)) refl)
 
   pub fresh-sound : Sound d (fresh d memory)
-  fresh-sound = fit-sound fresh-fit (agree→coherent (d .processors) (bare-inv (seen d (fresh d memory)) fresh-bare .agree) (beyond d (fresh d memory))) dims
+  fresh-sound =
+      fit-sound fresh-fit (agree→coherent (d .processors) (bare-inv (seen d (fresh d memory)) fresh-bare .agree) (beyond d (fresh d memory))) dims
 
   -- the memory that the caller gave
   pub fresh-memory : (w : ℕ) → getD (fresh d memory .memory) w 0 ≡ getD memory w 0
@@ -175,7 +185,8 @@ made-of d memory e = by (eqb (dimsRefusal d) accepted) (eqb (length memory) (d .
     number a b = pick a (pick b accepted badMemory) (dimsRefusal d)
 
     by : (a b : Bool) → eqb (dimsRefusal d) accepted ≡ a → eqb (length memory) (d .words) ≡ b
-        → pick (eqb (pick a (pick b accepted badMemory) (dimsRefusal d)) accepted) (made accepted m) (made (pick a (pick b accepted badMemory) (dimsRefusal d)) smallest) .refusal ≡ accepted
+        → pick (eqb (pick a (pick b accepted badMemory) (dimsRefusal d)) accepted) (made accepted m)
+        (made (pick a (pick b accepted badMemory) (dimsRefusal d)) smallest) .refusal ≡ accepted
         → MadeOf d memory
     by true true ha hb e = record {
       dims = eqb-true (dimsRefusal d) accepted ha;

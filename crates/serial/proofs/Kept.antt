@@ -30,11 +30,13 @@ pub record Good (d : Dims) (s : Caches) : Type 0 where
   pub sound : Sound d s
   pub values : Values (s .memory)
 
-pub step-kept : {d : Dims} {s : Caches} → Good d s → (op p w v : ℕ) → stepRefusal d op p w ≡ accepted → v < valueEnd → Good d (takeStep d op p w v s .after)
+pub step-kept : {d : Dims} {s : Caches} → Good d s → (op p w v : ℕ) → stepRefusal d op p w ≡ accepted → v < valueEnd
+    → Good d (takeStep d op p w v s .after)
 step-kept {d} {s} G op p w v e lv =
     let F = sound-fit (G .sound) (G .values) in
     let x = step-does F op p w v (taken d op p w e) lv in
-    let C = coherent-step (d .processors) (sound-coherent (G .sound) (G .values)) (seen-coarse F) (beyond d (takeStep d op p w v s .after)) (x .step) in
+    let C = coherent-step (d .processors) (sound-coherent (G .sound) (G .values)) (seen-coarse F) (beyond d (takeStep d op p w v s .after))
+    (x .step) in
     record { sound = fit-sound (x .fit) C (G .sound .dimensions); values = x .fit .frame .memory .small }
 
 -- what a step that is not refused is
@@ -52,7 +54,8 @@ stepping m op p w v e = by (soundOf (m .dims) (cachesOf m)) refl (eqb n accepted
 
     by : (a : Bool) → soundOf (m .dims) (cachesOf m) ≡ a → (b : Bool) → eqb n accepted ≡ b
         → refusalNumber
-        (pick a (pick b (steppedOf (m .dims) (takeStep (m .dims) op p w v (cachesOf m))) (stepped (refusedBy n) m)) (stepped (refusedBy notSound) m) .told .answer)
+        (pick a (pick b (steppedOf (m .dims) (takeStep (m .dims) op p w v (cachesOf m))) (stepped (refusedBy n) m))
+        (stepped (refusedBy notSound) m) .told .answer)
         ≡ accepted → Stepping m op p w v
     by true ha true hb e = record { test = ha; refusal = eqb-true n accepted hb; is = rw (ha, hb) }
     by true ha false hb e = absurd (eqb-false n accepted hb e)
@@ -75,7 +78,8 @@ unfolding runOf
 run-kept m x c values G = by (soundOf (m .dims) (cachesOf m)) (columnsOk x c)
   where
     by : (a b : Bool)
-        → Good (m .dims) (cachesOf (pick a (pick b (runSound (m .dims) x (cachesOf m) c) (left 0 badColumns m c)) (left 0 notSound m c) .ran .machine))
+        → Good (m .dims)
+        (cachesOf (pick a (pick b (runSound (m .dims) x (cachesOf m) c) (left 0 badColumns m c)) (left 0 notSound m c) .ran .machine))
     by true true = sound-run-kept x values (cachesOf m) c G
     by true false = G
     by false b = G

@@ -119,7 +119,8 @@ evicts {d} {s} F p lp w gone = by (line-fits F p lp w)
     by (inr f) = record {
       fit = lined-fit F p lp u h (f .at-home) M noEntry none-range (inl refl) tt old free;
       freed = reg-out u (lined-at F p lp u h (f .at-home) M noEntry none-range (inl refl) tt old free)
-          (look-line (d .entries) (home d) (decoded d s .slot p) (decoded d s .line p) (decoded d s .line p) (F .tidy p) u h (f .at-home) (λ g i. refl) full)
+          (look-line (d .entries) (home d) (decoded d s .slot p) (decoded d s .line p) (decoded d s .line p) (F .tidy p) u h (f .at-home)
+          (λ g i. refl) full)
           (lined-blank F p lp u h (f .at-home) M noEntry none-range (inl refl) tt old free refl) (back-here (F .frame) e refl (λ x. f .word));
       blank-now = lined-here F p lp u h (f .at-home) M noEntry none-range (inl refl) tt old free;
     }
@@ -137,7 +138,8 @@ evicts {d} {s} F p lp w gone = by (line-fits F p lp w)
         old = rw full refl
 
         free : (i : ℕ) → i < d .entries → mainOn u (decoded d s .slot p i) ≡ false
-        free = line-main (d .entries) (home d) (decoded d s .slot p) (decoded d s .line p) (decoded d s .line p) (F .tidy p) u h (f .at-home) (λ g i. refl) full
+        free = line-main (d .entries) (home d) (decoded d s .slot p) (decoded d s .line p) (decoded d s .line p) (F .tidy p) u h (f .at-home)
+            (λ g i. refl) full
 
 -- the own regular copy is given up
 pub record Unlined (d : Dims) (p w : ℕ) (s s′ : Caches) : Type 0 where
@@ -152,7 +154,8 @@ unlined {d} {s} F p lp w = by (holds (lineAt s p (home d w)) w) refl
     e : Entry
     e = lineAt s p (home d w)
 
-    by : (b : Bool) → holds (lineAt s p (home d w)) w ≡ b → Unlined d p w s (pick b (counted (writes e) (clearLine s p (home d w))) (counted 0 s) .after)
+    by : (b : Bool) → holds (lineAt s p (home d w)) w ≡ b
+        → Unlined d p w s (pick b (counted (writes e) (clearLine s p (home d w))) (counted 0 s) .after)
     by true o = record {
       fit = lined-fit F p lp w (home d w) refl M noEntry none-range (inl refl) tt old free;
       clears = re-reg (lined-at F p lp w (home d w) refl M noEntry none-range (inl refl) tt old free) (has-regular F p lp w e refl o) out
@@ -173,7 +176,8 @@ unlined {d} {s} F p lp w = by (holds (lineAt s p (home d w)) w) refl
         old = rw full refl
 
         free : (i : ℕ) → i < d .entries → mainOn w (decoded d s .slot p i) ≡ false
-        free = line-main (d .entries) (home d) (decoded d s .slot p) (decoded d s .line p) (decoded d s .line p) (F .tidy p) w (home d w) refl (λ g i. refl) full
+        free = line-main (d .entries) (home d) (decoded d s .slot p) (decoded d s .line p) (decoded d s .line p) (F .tidy p) w (home d w) refl
+            (λ g i. refl) full
 
         out : seen d (clearLine s p (home d w)) .copy w p ≡ none
         out = lined-blank F p lp w (home d w) refl M noEntry none-range (inl refl) tt old free refl

@@ -137,7 +137,11 @@ module _ {d : Dims} {s : Caches} (F : Fit d s) (p : ℕ) (lp : p < d .processors
           let l = ltb-true i (d .entries) e in
           let t = found-tag s p (d .entries) NORMAL w l in
           let u = found-word s p (d .entries) NORMAL w l in
-          record { fit = F; step = load-hit {p = p} {w = w} {x = entryAt s p i .«data»} (rw (has-normal F p lp w i l (entryAt s p i) refl u t) refl) same-refl }
+          record {
+            fit = F;
+            step =
+                load-hit {p = p} {w = w} {x = entryAt s p i .«data»} (rw (has-normal F p lp w i l (entryAt s p i) refl u t) refl) same-refl;
+          }
       by false e =
           let g = is-none (seen d s .copy w p) nr (no-normal F p lp w (ltb-false i (d .entries) e)) nt in
           let x = missed F p lp w lw g in
@@ -185,8 +189,11 @@ module _ {d : Dims} {s : Caches} (F : Fit d s) (p : ℕ) (lp : p < d .processors
       i : ℕ
       i = findEntry (s .entries) p (d .entries) TENTATIVE w
 
-      copy-is : i < d .entries → seen d s .copy w p ≡ tentative (stateOf (entryAt s p i .state)) (entryAt s p i .«data») (backing F p lp w) (eqb (entryAt s p i .state) DIRTY)
-      copy-is l = has-tentative F p lp w i l (entryAt s p i) refl (found-word s p (d .entries) TENTATIVE w l) (found-tag s p (d .entries) TENTATIVE w l)
+      copy-is : i < d .entries
+          → seen d s .copy w p ≡ tentative (stateOf (entryAt s p i .state)) (entryAt s p i .«data») (backing F p lp w)
+          (eqb (entryAt s p i .state) DIRTY)
+      copy-is l =
+          has-tentative F p lp w i l (entryAt s p i) refl (found-word s p (d .entries) TENTATIVE w l) (found-tag s p (d .entries) TENTATIVE w l)
 
       held : i < d .entries → entryAt s p i .state ≢ INVALID
       held l = let t = found-tag s p (d .entries) TENTATIVE w l in tagged-fits (entry-fits F p lp i l) (λ z. omega arith) .held
@@ -197,11 +204,16 @@ module _ {d : Dims} {s : Caches} (F : Fit d s) (p : ℕ) (lp : p < d .processors
           (pick y
           (pick z (gives (Value (entryAt s p i .«data»)) noCycles s) (Load.loadOn d p w (rollback d p s)))
           (Load.loadOn d p w s)))
-      by true hx y hy z hz = record { fit = F; step = load-hit {p = p} {w = w} {x = line .«data»} (rw (has-regular F p lp w line refl hx) refl) same-refl }
+      by true hx y hy z hz =
+          record { fit = F; step = load-hit {p = p} {w = w} {x = line .«data»} (rw (has-regular F p lp w line refl hx) refl) same-refl }
       by false hx true hy true hz =
           let l = ltb-true i (d .entries) hy in
           let v = eqb-true (entryAt s p i .state) VALID hz in
-          record { fit = F; step = load-hit {p = p} {w = w} {x = entryAt s p i .«data»} (rw (copy-is l) (ap (λ (n : ℕ). above (stateOf n)) v, refl)) same-refl }
+          record {
+            fit = F;
+            step =
+                load-hit {p = p} {w = w} {x = entryAt s p i .«data»} (rw (copy-is l) (ap (λ (n : ℕ). above (stateOf n)) v, refl)) same-refl;
+          }
       by false hx true hy false hz =
           let l = ltb-true i (d .entries) hy in
           let n = held l in

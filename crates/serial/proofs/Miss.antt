@@ -54,7 +54,8 @@ pub record Got (d : Dims) (p w c x i : ℕ) (s s′ : Caches) : Type 0 where
   pub word : entryAt s′ p i .word ≡ w
 
 module _ {d : Dims} {s : Caches} (F : Fit d s) (p : ℕ) (lp : p < d .processors) (w : ℕ) (lw : w < d .words) (c x : ℕ) (lc : c < 4) (nc : c ≢ INVALID)
-    (clean : eqb c DIRTY ≡ false) (lx : x < valueEnd) (gone : seen d s .copy w p ≡ none) (i : ℕ) (li : i < d .entries) (free-i : entryAt s p i ≡ noEntry) where
+    (clean : eqb c DIRTY ≡ false) (lx : x < valueEnd) (gone : seen d s .copy w p ≡ none) (i : ℕ) (li : i < d .entries)
+    (free-i : entryAt s p i ≡ noEntry) where
   abbrev sT : Caches
   sT = withEntry s p i (entry c TENTATIVE w x)
 
@@ -72,7 +73,8 @@ module _ {d : Dims} {s : Caches} (F : Fit d s) (p : ℕ) (lp : p < d .processors
 
   FT : Fit d sT
   FT =
-      entry-fit (F .frame) (memory-same (F .frame) w) p i lp (entry c TENTATIVE w x) rT li (entry-of p i c TENTATIVE w x lp li nc (λ z. omega arith) lw) (en .0)
+      entry-fit (F .frame) (memory-same (F .frame) w) p i lp (entry c TENTATIVE w x) rT li
+      (entry-of p i c TENTATIVE w x lp li nc (λ z. omega arith) lw) (en .0)
 
   at-i : entryAt sT p i ≡ entry c TENTATIVE w x
   at-i =
@@ -110,7 +112,8 @@ module _ {d : Dims} {s : Caches} (F : Fit d s) (p : ℕ) (lp : p < d .processors
     bu : AllTidy (d .entries) (home d) (decoded d sB) × At p w (seen d sT) (seen d sB)
         × (seen d sB .copy w p ≡ tentative (stateOf c) x (backup (stateOf c) x) false)
     bu =
-        backs-up (d .entries) (home d) (FT .tidy) lb setB (setT .else b apart ∙ (slot-at F p lp b lb ∙ ap slotOf free-b)) refl i li (setT .here ∙ tentative-is) lone
+        backs-up (d .entries) (home d) (FT .tidy) lb setB (setT .else b apart ∙ (slot-at F p lp b lb ∙ ap slotOf free-b)) refl i li
+        (setT .here ∙ tentative-is) lone
 
     still-i : entryAt sB p i ≡ entry c TENTATIVE w x
     still-i =
@@ -121,7 +124,8 @@ module _ {d : Dims} {s : Caches} (F : Fit d s) (p : ℕ) (lp : p < d .processors
     got-both : Got d p w c x i s sB
     got-both = record {
       fit =
-          entry-fit (FT .frame) (memory-same (FT .frame) w) p b lp (entry c BACKUP w x) rB lb (entry-of p b c BACKUP w x lp lb nc (λ z. omega arith) lw) (bu .0);
+          entry-fit (FT .frame) (memory-same (FT .frame) w) p b lp (entry c BACKUP w x) rB lb
+          (entry-of p b c BACKUP w x lp lb nc (λ z. omega arith) lw) (bu .0);
       at-w = at-trans (en .1) (bu .1);
       back = backup (stateOf c) x;
       back-is = inr refl;
@@ -141,7 +145,8 @@ module _ {d : Dims} {s : Caches} (F : Fit d s) (p : ℕ) (lp : p < d .processors
       by : (y : Bool) → ltb b (d .entries) ≡ y
           → Got d p w c x i s
           (caches (s .memory) (s .lines)
-          (pick y (withCopy (withCopy (s .entries) p i (entry c TENTATIVE w x)) p b (entry c BACKUP w x)) (withCopy (s .entries) p i (entry c TENTATIVE w x)))
+          (pick y (withCopy (withCopy (s .entries) p i (entry c TENTATIVE w x)) p b (entry c BACKUP w x))
+          (withCopy (s .entries) p i (entry c TENTATIVE w x)))
           (s .flags))
       by true h = let l = ltb-true b (d .entries) h in got-both b l (f l .0) (f l .1)
       by false h = got-bare
@@ -168,7 +173,8 @@ filling-code reading = (omega arith, (λ z. omega arith), refl)
 filling-code owning = (omega arith, (λ z. omega arith), refl)
 
 -- the request of a miss, slot i being free, and slot b if there is one
-module _ {d : Dims} (a : Access) (p : ℕ) (lp : p < d .processors) (w : ℕ) (lw : w < d .words) (v : ℕ) (lv : v < valueEnd) {S S₀ Sf : View} (O : Opened p w S S₀)
+module _ {d : Dims} (a : Access) (p : ℕ) (lp : p < d .processors) (w : ℕ) (lw : w < d .words) (v : ℕ) (lv : v < valueEnd) {S S₀ Sf : View}
+    (O : Opened p w S S₀)
     {s : Caches} (F : Fit d s) (was : S₀ .copy w p ≡ none) (fr : Freed p S₀ Sf) (fr′ : Freed p Sf (seen d s))
     (i : ℕ) (li : i < d .entries) (free-i : entryAt s p i ≡ noEntry) (b : ℕ) (free-b : b < d .entries → (b ≢ i) × (entryAt s p b ≡ noEntry)) where
   -- the machine's text, by kind
@@ -220,7 +226,8 @@ module _ {d : Dims} (a : Access) (p : ℕ) (lp : p < d .processors) (w : ℕ) (l
           let q = got (g .0 .fit) p lp w lw (filling (kind a)) x (f .0) (f .1) (f .2) (g .0 .fit .frame .memory .small w) gone i li
           (o .entries i (omega arith) ∙ free-i) b (λ l. (free-b l .0, o .entries b (omega arith) ∙ free-b l .1)) in
           finished a p lp w v lv O (q .fit) i li (q .tag) (q .word) (asked c n 0)
-          (misses was fr fr′ (g .1) (q .at-w) (backed (q .back) (q .back-is)) (q .here ∙ ap (λ (r : _). tentative r x (q .back) false) (filling-is (kind a)))
+          (misses was fr fr′ (g .1) (q .at-w) (backed (q .back) (q .back-is))
+          (q .here ∙ ap (λ (r : _). tentative r x (q .back) false) (filling-is (kind a)))
           (ap (λ (m : List ℕ). getD m w 0) (q .memory-same)))
         where
           backed : (y : Back) → (y ≡ bare) ⊎ (y ≡ backup (stateOf (filling (kind a))) x) → (y ≡ bare) ⊎ (y ≡ backup (granted (kind a)) x)
@@ -228,7 +235,8 @@ module _ {d : Dims} (a : Access) (p : ℕ) (lp : p < d .processors) (w : ℕ) (l
           backed y (inr e) = inr (e ∙ ap (λ (r : _). backup r x) (filling-is (kind a)))
 
 -- the whole of a miss
-module _ {d : Dims} (a : Access) (p : ℕ) (lp : p < d .processors) (w : ℕ) (lw : w < d .words) (v : ℕ) (lv : v < valueEnd) {S : View} {s : Caches} (F : Fit d s)
+module _ {d : Dims} (a : Access) (p : ℕ) (lp : p < d .processors) (w : ℕ) (lw : w < d .words) (v : ℕ) (lv : v < valueEnd) {S : View} {s : Caches}
+    (F : Fit d s)
     (O : Opened p w S (seen d s)) (was : seen d s .copy w p ≡ none) where
   at-slot : (i : ℕ) → i < d .entries → entryAt s p i .tag ≢ TENTATIVE → (n : ℕ) → Does d S (byAccess p w v) (missAt d (number a) p i w v n s)
   unfolding missAt clearBackup
@@ -253,7 +261,8 @@ module _ {d : Dims} (a : Access) (p : ℕ) (lp : p < d .processors) (w : ℕ) (l
           let f = sought t p (d .entries) i l in
           let E₂ = emptied (E₁ .fit) p lp b l (f .1) in
           request-does a p lp w lw v lv O (E₂ .fit) was (E₁ .freed) (E₂ .freed) i li
-          (E₂ .else i (omega (arith, F .frame .size .entries)) (λ z. f .0 (sym z)) ∙ E₁ .here) b (λ l′. (f .0, E₂ .here)) (n + writes (entryAt s p i) + writes (entryAt t p b))
+          (E₂ .else i (omega (arith, F .frame .size .entries)) (λ z. f .0 (sym z)) ∙ E₁ .here) b (λ l′. (f .0, E₂ .here))
+          (n + writes (entryAt s p i) + writes (entryAt t p b))
       by false h =
           request-does a p lp w lw v lv O (E₁ .fit) was (E₁ .freed) (empty same-refl) i li (E₁ .here) b
           (λ l′. absurd (omega (arith, ltb-false b (d .entries) h))) (n + writes (entryAt s p i) + 0)

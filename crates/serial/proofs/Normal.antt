@@ -38,7 +38,8 @@ use Rattle.serial.proofs.Slotted.{sought, Emptied, emptied}
 pub entry-range : {W : ℕ} (x t w v : ℕ) → x < 4 → t < 4 → w < W → W ≤ 256 → v < valueEnd → InRange (entry x t w v)
 entry-range x t w v lx lt lw l lv = record { state = lx; tag = lt; word = omega arith; «data» = lv }
 
-pub entry-of : {d : Dims} (p i x t w v : ℕ) → p < d .processors → i < d .entries → x ≢ INVALID → t ≢ INVALID → w < d .words → Fits (EntryFits d) p i (entry x t w v)
+pub entry-of : {d : Dims} (p i x t w v : ℕ) → p < d .processors → i < d .entries → x ≢ INVALID → t ≢ INVALID → w < d .words
+    → Fits (EntryFits d) p i (entry x t w v)
 entry-of p i x t w v lp li nx nt lw = inr (record { processor = lp; slot = li; held = nx; tag = nt; word = lw })
 
 -- p's NORMAL entry of w, at i
@@ -68,7 +69,8 @@ module _ {d : Dims} {s : Caches} (F : Fit d s) (p : ℕ) (lp : p < d .processors
     to-range : InRange (entry x TENTATIVE w v)
     to-range = entry-range x TENTATIVE w v lx (omega arith) word-in (F .frame .size .words) lv
 
-    pub to-set : SlotSet (d .entries) (home d) p i (slotTentative (stateOf x) w v (eqb x DIRTY)) w (decoded d s) (decoded d (entryOn s m p i (entry x TENTATIVE w v)))
+    pub to-set : SlotSet (d .entries) (home d) p i (slotTentative (stateOf x) w v (eqb x DIRTY)) w (decoded d s)
+        (decoded d (entryOn s m p i (entry x TENTATIVE w v)))
     to-set = set-slot (F .frame) M p i lp (entry x TENTATIVE w v) to-range li
 
     pub to-turn : AllTidy (d .entries) (home d) (decoded d (entryOn s m p i (entry x TENTATIVE w v)))
@@ -80,7 +82,8 @@ module _ {d : Dims} {s : Caches} (F : Fit d s) (p : ℕ) (lp : p < d .processors
 
     pub to-fit : Fit d (entryOn s m p i (entry x TENTATIVE w v))
     to-fit =
-        entry-fit (F .frame) M p i lp (entry x TENTATIVE w v) to-range li (entry-of p i x TENTATIVE w v lp li nx (λ z. omega arith) word-in) (to-turn .0)
+        entry-fit (F .frame) M p i lp (entry x TENTATIVE w v) to-range li (entry-of p i x TENTATIVE w v lp li nx (λ z. omega arith) word-in)
+        (to-turn .0)
 
     pub to-here : entryAt (entryOn s m p i (entry x TENTATIVE w v)) p i ≡ entry x TENTATIVE w v
     to-here =
@@ -135,7 +138,8 @@ module _ {d : Dims} {s : Caches} (F : Fit d s) (p : ℕ) (lp : p < d .processors
   in-words = subst (λ (u : ℕ). u < d .words) hw (tagged-fits (entry-fits F p lp i li) (λ z. omega arith) .word)
 
   -- no slot for a backup
-  bare-begins : Began d p w i s (entryOn s (writtenBack (s .memory) (entryAt s p i)) p i (entry (alone (entryAt s p i .state)) TENTATIVE w (entryAt s p i .«data»)))
+  bare-begins : Began d p w i s
+      (entryOn s (writtenBack (s .memory) (entryAt s p i)) p i (entry (alone (entryAt s p i .state)) TENTATIVE w (entryAt s p i .«data»)))
   bare-begins =
       let M = back-at (F .frame) e hw (fits-word (entry-fits F p lp i li)) (unpack-range _ .«data») in
       let c = alone-code (e .state) (omega arith) held₀ in
@@ -234,8 +238,10 @@ module _ {d : Dims} {s : Caches} (F : Fit d s) (p : ℕ) (lp : p < d .processors
 
         zC : entryAt sC p i ≡ entry x TENTATIVE w v
         zC =
-            copy-else (sB .entries) (FB .frame .entries .long) p b (omega (arith, F .frame .size .processors)) (omega (arith, F .frame .size .entries))
-            (entry x BACKUP w v) rC p i (omega (arith, F .frame .size .processors)) (omega (arith, F .frame .size .entries)) (inr (λ z. apart (sym z))) ∙
+            copy-else (sB .entries) (FB .frame .entries .long) p b (omega (arith, F .frame .size .processors))
+            (omega (arith, F .frame .size .entries))
+            (entry x BACKUP w v) rC p i (omega (arith, F .frame .size .processors)) (omega (arith, F .frame .size .entries))
+            (inr (λ z. apart (sym z))) ∙
             to-here FA p lp w i li htA hwA MA x v lx held₀ lv
 
   pub began : Began d p w i s (openNormal d p i s .after)
@@ -261,7 +267,8 @@ module _ {d : Dims} {s : Caches} (F : Fit d s) (p : ℕ) (lp : p < d .processors
           subst⁻¹ (λ (es : List ℕ). Began d p w i s (caches (writtenBack (s .memory) (entryAt s p b)) (s .lines) es (s .flags)))
           (ap (λ (x : Entry). withCopy (withCopy (s .entries) p b x) p i (withTag e TENTATIVE)) (retagged BACKUP) ∙
           (ap (λ (x : Entry). withCopy (withCopy (s .entries) p b (entry (e .state) BACKUP w (e .«data»))) p i x) (retagged TENTATIVE) ∙
-          three (s .entries) (place p i) (place p b) (pack (entry (e .state) TENTATIVE w (e .«data»))) (pack (entry (e .state) BACKUP w (e .«data»))) (pack noEntry)
+          three (s .entries) (place p i) (place p b) (pack (entry (e .state) TENTATIVE w (e .«data»))) (pack (entry (e .state) BACKUP w (e .«data»)))
+          (pack noEntry)
           (λ z. f .0 (omega (arith, F .frame .size .entries)))))
           (backed b l (f .0) (f .1))
       by false h =

@@ -98,7 +98,8 @@ opposes-is {d} {s} F q lq w k c C = go (ltb i (d .entries)) refl
         ap (λ (b : Bool). either b (leb RESERVED (entryAt s q i .state))) (C .take) ∙
         (sym (above-code (entryAt s q i .state) (omega arith) (f .held)) ∙ ap tentativeAbove (sym h))
     some-by owning C l =
-        let h = has-tentative F q lq w i l (entryAt s q i) refl (found-word s q (d .entries) TENTATIVE w l) (found-tag s q (d .entries) TENTATIVE w l) in
+        let h = has-tentative F q lq w i l (entryAt s q i) refl (found-word s q (d .entries) TENTATIVE w l)
+        (found-tag s q (d .entries) TENTATIVE w l) in
         ap (λ (b : Bool). either b (leb RESERVED (entryAt s q i .state))) (C .take) ∙ ap isTentative (sym h)
 
     go : (b : Bool) → ltb i (d .entries) ≡ b
@@ -161,7 +162,8 @@ module _ (d : Dims) (k : Kind) (c : ℕ) (C : Cycle k c) (p w : ℕ) (lp : p < d
       )
       go false false e f = (R, spared (inr (sym (opposes-is (R .fit) q l w k c C) ∙ f)) same-refl)
 
-  pub roll-others : Fit d s₀ → Rolling d p s₀ (rollOthers d p w c s₀) × Each (RollIf (Bus.refuses k) p w) (d .processors) (seen d s₀) (seen d (rollOthers d p w c s₀))
+  pub roll-others : Fit d s₀ → Rolling d p s₀ (rollOthers d p w c s₀)
+      × Each (RollIf (Bus.refuses k) p w) (d .processors) (seen d s₀) (seen d (rollOthers d p w c s₀))
   unfolding rollOthers
   roll-others F =
       each (seen d) (Rolling d p s₀) (RollIf (Bus.refuses k) p w) (rollOne d p w c) (d .processors) roll-one (d .processors) (omega arith) s₀

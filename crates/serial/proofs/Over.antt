@@ -23,7 +23,8 @@ use Rattle.serial.proofs.Decode.{slotBy, slotOf}
 use Rattle.serial.proofs.Frame.{EntryFits, Fits, Copies}
 
 -- what the loop over p's n entries leaves
-module _ (f : Entry → Entry) (keeps : (e : Entry) → InRange e → InRange (f e)) (p n : ℕ) (lp : p < 8) (ln : n ≤ 64) (l : List ℕ) (len : length l ≡ 512) where
+module _ (f : Entry → Entry) (keeps : (e : Entry) → InRange e → InRange (f e)) (p n : ℕ) (lp : p < 8) (ln : n ≤ 64) (l : List ℕ)
+    (len : length l ≡ 512) where
   code-in : (i : ℕ) → i < n → getD (overEntries f p n l) (place p i) 0 ≡ repacked f (getD l (place p i) 0)
   code-in i li = apply-in (place p) (repacked f) 0 0 n i l (omega arith) (omega arith) (omega arith) (λ a x y z. omega arith)
 
@@ -36,12 +37,14 @@ module _ (f : Entry → Entry) (keeps : (e : Entry) → InRange e → InRange (f
 
   pub over-in : (i : ℕ) → i < n → copyAt (overEntries f p n l) p i ≡ f (copyAt l p i)
   over-in i li =
-      ap unpack (code-in i li) ∙ unpack-pack (f (unpack (getD l (place p i) 0))) (keeps (unpack (getD l (place p i) 0)) (unpack-range (getD l (place p i) 0)))
+      ap unpack (code-in i li) ∙ unpack-pack (f (unpack (getD l (place p i) 0)))
+      (keeps (unpack (getD l (place p i) 0)) (unpack-range (getD l (place p i) 0)))
 
   pub over-else : (q i : ℕ) → q < 8 → i < 64 → (q ≢ p) ⊎ (n ≤ i) → copyAt (overEntries f p n l) q i ≡ copyAt l q i
   over-else q i lq li x = ap unpack (code-else q i lq li x)
 
-  pub over-copies : {Ok : ℕ → ℕ → Entry → Type 0} → Copies Ok l → ((i : ℕ) (e : Entry) → Fits Ok p i e → Fits Ok p i (f e)) → Copies Ok (overEntries f p n l)
+  pub over-copies : {Ok : ℕ → ℕ → Entry → Type 0} → Copies Ok l → ((i : ℕ) (e : Entry) → Fits Ok p i e → Fits Ok p i (f e))
+      → Copies Ok (overEntries f p n l)
   over-copies {Ok} C g = record {
     long = apply-length (place p) (repacked f) 0 0 n l ∙ len;
     codes = λ q i lq li. code q i lq li (ℕ-discrete q p) (decLt i n);

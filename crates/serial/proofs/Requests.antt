@@ -50,7 +50,8 @@ module _ (s : Caches) (q n w : ℕ) where
       by false true z hx hy hz t = (inr (eqb-true (entryAt s q i .tag) TENTATIVE hy), eqb-true (entryAt s q i .word) w (hz ∙ t))
       by false false z hx hy hz t = absurd (false≢true t)
 
-  pub live-none : n ≤ liveEntry (s .entries) q n w → (i : ℕ) → i < n → (entryAt s q i .tag ≡ NORMAL) ⊎ (entryAt s q i .tag ≡ TENTATIVE) → entryAt s q i .word ≡ w → ⊥
+  pub live-none : n ≤ liveEntry (s .entries) q n w → (i : ℕ) → i < n → (entryAt s q i .tag ≡ NORMAL) ⊎ (entryAt s q i .tag ≡ TENTATIVE)
+      → entryAt s q i .word ≡ w → ⊥
   unfolding liveEntry
   live-none l i li t hw = true≢false (sym (on t) ∙ first-not (hasLive (s .entries) q w) 0 n i (omega arith) (omega arith))
     where
@@ -61,8 +62,10 @@ module _ (s : Caches) (q n w : ℕ) where
       y = eqb (entryAt s q i .tag) TENTATIVE
 
       on : (entryAt s q i .tag ≡ NORMAL) ⊎ (entryAt s q i .tag ≡ TENTATIVE) → hasLive (s .entries) q w i ≡ true
-      on (inl z) = both-true (either x y) (eqb (entryAt s q i .word) w) (either-left x y (eq-eqb (entryAt s q i .tag) NORMAL z)) (eq-eqb (entryAt s q i .word) w hw)
-      on (inr z) = both-true (either x y) (eqb (entryAt s q i .word) w) (either-right x y (eq-eqb (entryAt s q i .tag) TENTATIVE z)) (eq-eqb (entryAt s q i .word) w hw)
+      on (inl z) = both-true (either x y) (eqb (entryAt s q i .word) w) (either-left x y (eq-eqb (entryAt s q i .tag) NORMAL z))
+          (eq-eqb (entryAt s q i .word) w hw)
+      on (inr z) = both-true (either x y) (eqb (entryAt s q i .word) w) (either-right x y (eq-eqb (entryAt s q i .tag) TENTATIVE z))
+          (eq-eqb (entryAt s q i .word) w hw)
 
 module _ {d : Dims} {s : Caches} (F : Fit d s) (q : ℕ) (lq : q < d .processors) (w : ℕ) (k : Kind) (c : ℕ) (C : Cycle k c)
     (grants : Bus.refuses k (seen d s .copy w q) ≡ false) where
@@ -93,7 +96,8 @@ module _ {d : Dims} {s : Caches} (F : Fit d s) (q : ℕ) (lq : q < d .processors
       e : Entry
       e = entryAt s q i
 
-      asked : (l : i < d .entries) → ((e .tag ≡ NORMAL) ⊎ (e .tag ≡ TENTATIVE)) × (e .word ≡ w) → Asked d k w q s (entryOn s (writtenBack (s .memory) e) q i (left k e))
+      asked : (l : i < d .entries) → ((e .tag ≡ NORMAL) ⊎ (e .tag ≡ TENTATIVE)) × (e .word ≡ w)
+          → Asked d k w q s (entryOn s (writtenBack (s .memory) e) q i (left k e))
       asked l (inl t, ew) = normal-asked F q lq w k grants i l e refl (unpack-range _) ew t
       asked l (inr t, ew) = tentative-asked F q lq w k grants i l e refl (unpack-range _) ew t
 
@@ -120,7 +124,8 @@ module _ {d : Dims} {s : Caches} (F : Fit d s) (q : ℕ) (lq : q < d .processors
       by true h =
           let l = ltb-true i (d .entries) h in
           let f = live-found s q (d .entries) w l in
-          subst⁻¹ (λ (x : Entry). Asked d k w q s (entryOn s (writtenBack (s .memory) e) q i x)) (snooped-is k c C e (omega arith) (held l f)) (asked l f)
+          subst⁻¹ (λ (x : Entry). Asked d k w q s (entryOn s (writtenBack (s .memory) e) q i x)) (snooped-is k c C e (omega arith) (held l f))
+          (asked l f)
       by false h = nothing-asked F q lq w k grants (gone (ltb-false i (d .entries) h))
 
   pub turn-asked : Asked d k w q s (snoopEntry d w c q (snoopLine (home d w) w c q s))
@@ -203,7 +208,8 @@ module _ {d : Dims} {s : Caches} (F : Fit d s) (k : Kind) (c : ℕ) (C : Cycle k
   spare g q n = elim (decLt q (d .processors)) [ yes l ↦ g q l n | no l ↦ rw (beyond d s w q (omega arith)) (refuses-none k) ]
 
   -- T_READ and T_RFO, not refused
-  pub by-leave : refuses d p w c (s .entries) ≡ false → Served d p s (snoop d p w c s) × Granted k (d .processors) p w (seen d s) (seen d (snoop d p w c s))
+  pub by-leave : refuses d p w c (s .entries) ≡ false → Served d p s (snoop d p w c s)
+      × Granted k (d .processors) p w (seen d s) (seen d (snoop d p w c s))
   by-leave h =
       let free = spare (is-free F p w k c C h) in
       let a = snooping d k c C p w lp s s (record { fit = F; spared = free; kept = own-refl }) in

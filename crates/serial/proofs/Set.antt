@@ -86,11 +86,13 @@ module _ {d : Dims} {s : Caches} (F : Frame d s) (e : Entry) {w : ℕ} (ew : e .
       subst (λ (u : ℕ). getD (writtenBack (s .memory) e) u 0 ≡ wrote (stateOf (e .state)) (e .«data») (wordAt s u)) ew
       (written-here (s .memory) e (λ x. omega (arith, F .memory .long, F .size .words, lw x)))
 
-module _ {d : Dims} {s : Caches} (F : Frame d s) {u : ℕ} {m : List ℕ} (M : Memory d s u m) (p i : ℕ) (lp : p < d .processors) (e : Entry) (ok : InRange e) where
+module _ {d : Dims} {s : Caches} (F : Frame d s) {u : ℕ} {m : List ℕ} (M : Memory d s u m) (p i : ℕ) (lp : p < d .processors) (e : Entry)
+    (ok : InRange e) where
   module _ (li : i < d .entries) where
     pub set-slot : SlotSet (d .entries) (home d) p i (slotOf e) u (decoded d s) (decoded d (entryOn s m p i e))
     set-slot = record {
-      here = read-here slotOf vacant (d .processors) (d .entries) (F .size .processors) (F .size .entries) (s .entries) (F .entries .long) p i lp li e ok;
+      here = read-here slotOf vacant (d .processors) (d .entries) (F .size .processors) (F .size .entries) (s .entries)
+          (F .entries .long) p i lp li e ok;
       else = λ j n. else p j (inr n);
       slots = λ q j n l. else q j (inl n);
       lines = λ q h. refl;
@@ -100,7 +102,8 @@ module _ {d : Dims} {s : Caches} (F : Frame d s) {u : ℕ} {m : List ℕ} (M : M
     }
       where
         else : (q j : ℕ) → (q ≢ p) ⊎ (j ≢ i) → decoded d (entryOn s m p i e) .slot q j ≡ decoded d s .slot q j
-        else = read-else slotOf vacant (d .processors) (d .entries) (F .size .processors) (F .size .entries) (s .entries) (F .entries .long) p i lp li e ok
+        else = read-else slotOf vacant (d .processors) (d .entries) (F .size .processors) (F .size .entries) (s .entries)
+            (F .entries .long) p i lp li e ok
 
     pub entry-frame : Fits (EntryFits d) p i e → Frame d (entryOn s m p i e)
     entry-frame f =

@@ -31,11 +31,13 @@ use Rattle.serial.proofs.Under.{behind, has-backup}
 -- the copy that settles w for q, the word's line first
 abbrev pub chosen : Dims → ℕ → Caches → ℕ → ℕ
 chosen d w s q =
-    pick (Settled.isDirty (lineAt s q (home d w)) w) (lineAt s q (home d w) .«data») (entryAt s q (settlingEntry (s .entries) q (d .entries) w) .«data»)
+    pick (Settled.isDirty (lineAt s q (home d w)) w) (lineAt s q (home d w) .«data»)
+    (entryAt s q (settlingEntry (s .entries) q (d .entries) w) .«data»)
 
 -- q settles w exactly where its copy owns the value
 pub data Settling (d : Dims) (s : Caches) (w q : ℕ) : Type 0 where
-  does : settles d (home d w) w (s .lines) (s .entries) q ≡ true → owns (seen d s .copy w q) ≡ true → chosen d w s q ≡ baseData (seen d s .copy w q) → Settling d s w q
+  does : settles d (home d w) w (s .lines) (s .entries) q ≡ true → owns (seen d s .copy w q) ≡ true → chosen d w s q ≡ baseData (seen d s .copy w q)
+      → Settling d s w q
   does-not : settles d (home d w) w (s .lines) (s .entries) q ≡ false → owns (seen d s .copy w q) ≡ false → Settling d s w q
 
 dirty-on : (x : ℕ) → x ≡ DIRTY → isDirty (stateOf x) ≡ true
@@ -62,7 +64,11 @@ module _ {d : Dims} {s : Caches} (F : Fit d s) (q : ℕ) (lq : q < d .processors
   settling-says e h = by (eqb (e .tag) NORMAL) (eqb (e .tag) BACKUP) refl refl h
     where
       rest : Settled.isDirty e w ≡ true → (e .state ≡ DIRTY) × (e .word ≡ w)
-      rest t = (eqb-true (e .state) DIRTY (both-left (eqb (e .state) DIRTY) (eqb (e .word) w) t), eqb-true (e .word) w (both-right (eqb (e .state) DIRTY) (eqb (e .word) w) t))
+      rest t = (
+        eqb-true (e .state) DIRTY (both-left (eqb (e .state) DIRTY) (eqb (e .word) w) t),
+        eqb-true (e .word) w
+            (both-right (eqb (e .state) DIRTY) (eqb (e .word) w) t),
+      )
 
       by : (n b : Bool) → eqb (e .tag) NORMAL ≡ n → eqb (e .tag) BACKUP ≡ b → both (either n b) (Settled.isDirty e w) ≡ true
           → ((e .tag ≡ NORMAL) ⊎ (e .tag ≡ BACKUP)) × (e .state ≡ DIRTY) × (e .word ≡ w)
@@ -96,14 +102,17 @@ module _ {d : Dims} {s : Caches} (F : Fit d s) (q : ℕ) (lq : q < d .processors
           (ap (λ (b : Bool). pick b (line .«data») (entryAt s q i .«data»)) h ∙ sym (ap baseData was))
 
       by-entry : Settled.isDirty line w ≡ false → (l : i < d .entries)
-          → ((entryAt s q i .tag ≡ NORMAL) ⊎ (entryAt s q i .tag ≡ BACKUP)) × (entryAt s q i .state ≡ DIRTY) × (entryAt s q i .word ≡ w) → Settling d s w q
+          → ((entryAt s q i .tag ≡ NORMAL) ⊎ (entryAt s q i .tag ≡ BACKUP)) × (entryAt s q i .state ≡ DIRTY) × (entryAt s q i .word ≡ w)
+          → Settling d s w q
       by-entry h l (inl t, hs, hw) =
           let was = has-normal F q lq w i l (entryAt s q i) refl hw t in
-          does (either-right (Settled.isDirty line w) (ltb i (d .entries)) (lt-ltb i (d .entries) l)) (ap owns was ∙ dirty-on (entryAt s q i .state) hs)
+          does (either-right (Settled.isDirty line w) (ltb i (d .entries)) (lt-ltb i (d .entries) l))
+          (ap owns was ∙ dirty-on (entryAt s q i .state) hs)
           (ap (λ (b : Bool). pick b (line .«data») (entryAt s q i .«data»)) h ∙ sym (ap baseData was))
       by-entry h l (inr t, hs, hw) =
           let was = has-backup F q lq w i l t hw in
-          does (either-right (Settled.isDirty line w) (ltb i (d .entries)) (lt-ltb i (d .entries) l)) (ap owns (was .3) ∙ dirty-on (entryAt s q i .state) hs)
+          does (either-right (Settled.isDirty line w) (ltb i (d .entries)) (lt-ltb i (d .entries) l))
+          (ap owns (was .3) ∙ dirty-on (entryAt s q i .state) hs)
           (ap (λ (b : Bool). pick b (line .«data») (entryAt s q i .«data»)) h ∙ sym (ap baseData (was .3)))
 
       none-owns : Settled.isDirty line w ≡ false → d .entries ≤ i → owns (seen d s .copy w q) ≡ false
@@ -113,7 +122,8 @@ module _ {d : Dims} {s : Caches} (F : Fit d s) (q : ℕ) (lq : q < d .processors
           off true n = absurd (n refl)
           off false n = refl
 
-          entry-off : (j : ℕ) → j < d .entries → (entryAt s q j .tag ≡ NORMAL) ⊎ (entryAt s q j .tag ≡ BACKUP) → entryAt s q j .word ≡ w → entryAt s q j .state ≡ DIRTY → ⊥
+          entry-off : (j : ℕ) → j < d .entries → (entryAt s q j .tag ≡ NORMAL) ⊎ (entryAt s q j .tag ≡ BACKUP) → entryAt s q j .word ≡ w
+              → entryAt s q j .state ≡ DIRTY → ⊥
           entry-off j lj t hw hs = true≢false (sym (says-settling (entryAt s q j) t hs hw) ∙ settling-none l j lj)
 
           go : (k : Copy) → seen d s .copy w q ≡ k → isRegular k ≡ false → owns k ≡ false
@@ -122,12 +132,15 @@ module _ {d : Dims} {s : Caches} (F : Fit d s) (q : ℕ) (lq : q < d .processors
           go (normal x y) e r =
               let f = look-norm (d .entries) (home d) (decoded d s .slot q) (decoded d s .line q) w e in
               let z = slot-normal (entryAt s q (f .0)) (sym (slot-at F q lq (f .0) (f .1)) ∙ f .2) in
-              off (isDirty x) (λ o. entry-off (f .0) (f .1) (inl (z .tagged)) (z .word) (on-dirty (entryAt s q (f .0) .state) (ap isDirty (z .state) ∙ o)))
+              off (isDirty x)
+              (λ o. entry-off (f .0) (f .1) (inl (z .tagged)) (z .word) (on-dirty (entryAt s q (f .0) .state) (ap isDirty (z .state) ∙ o)))
           go (tentative x y bare t) e r = refl
           go (tentative x y (backup a b) t) e r =
               let f = behind F q lq w e in
               let z = f .is in
-              off (isDirty a) (λ o. entry-off (f .slot) (f .inside) (inr (z .tagged)) (z .word) (on-dirty (entryAt s q (f .slot) .state) (ap isDirty (z .state) ∙ o)))
+              off (isDirty a)
+              (λ o. entry-off (f .slot) (f .inside) (inr (z .tagged)) (z .word)
+              (on-dirty (entryAt s q (f .slot) .state) (ap isDirty (z .state) ∙ o)))
 
           over : (b : Bool) → holds line w ≡ b → owns (seen d s .copy w q) ≡ false
           over true o =
@@ -135,7 +148,8 @@ module _ {d : Dims} {s : Caches} (F : Fit d s) (q : ℕ) (lq : q < d .processors
               off (isDirty (stateOf (line .state)))
               (λ x.
               true≢false
-              (sym (both-true (eqb (line .state) DIRTY) (eqb (line .word) w) (eq-eqb (line .state) DIRTY (on-dirty (line .state) x)) (both-right (not (eqb (line .state) INVALID)) (eqb (line .word) w) o)) ∙ h))
+              (sym (both-true (eqb (line .state) DIRTY) (eqb (line .word) w) (eq-eqb (line .state) DIRTY (on-dirty (line .state) x))
+              (both-right (not (eqb (line .state) INVALID)) (eqb (line .word) w) o)) ∙ h))
           over false o = go (seen d s .copy w q) refl (no-regular F q lq w line refl o)
 
       by : (b : Bool) → Settled.isDirty line w ≡ b → Dec (i < d .entries) → Settling d s w q

@@ -76,13 +76,16 @@ emptied {d} {s} F p lp i li nt = by (ℕ-discrete (e .tag) NORMAL) (ℕ-discrete
     c : SlotSet (d .entries) (home d) p i vacant (e .word) (decoded d s) (decoded d (clearEntry s p i))
     c = set-slot (F .frame) M p i lp noEntry none-range li
 
-    done : AllTidy (d .entries) (home d) (decoded d (clearEntry s p i)) × Freed p (seen d s) (seen d (clearEntry s p i)) → Emptied d p i s (clearEntry s p i)
+    done : AllTidy (d .entries) (home d) (decoded d (clearEntry s p i)) × Freed p (seen d s) (seen d (clearEntry s p i))
+        → Emptied d p i s (clearEntry s p i)
     done x = record {
       fit = entry-fit (F .frame) M p i lp noEntry none-range li (inl refl) (x .0);
       freed = x .1;
-      here = copy-here (s .entries) (F .frame .entries .long) p i (omega (arith, F .frame .size .processors)) (omega (arith, F .frame .size .entries)) noEntry none-range;
+      here = copy-here (s .entries) (F .frame .entries .long) p i (omega (arith, F .frame .size .processors))
+          (omega (arith, F .frame .size .entries)) noEntry none-range;
       else = λ j lj n.
-          copy-else (s .entries) (F .frame .entries .long) p i (omega (arith, F .frame .size .processors)) (omega (arith, F .frame .size .entries)) noEntry
+          copy-else (s .entries) (F .frame .entries .long) p i (omega (arith, F .frame .size .processors))
+          (omega (arith, F .frame .size .entries)) noEntry
           none-range p j (omega (arith, F .frame .size .processors)) lj (inr n);
     }
 

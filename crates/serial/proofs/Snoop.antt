@@ -90,10 +90,19 @@ same-at q w i = record {
   status-same = i .status-same;
 }
 
-module _ {d : Dims} {s : Caches} (F : Fit d s) (q : ℕ) (lq : q < d .processors) (w : ℕ) (k : Kind) (grants : Bus.refuses k (seen d s .copy w q) ≡ false) where
+module _ {d : Dims} {s : Caches} (F : Fit d s) (q : ℕ) (lq : q < d .processors) (w : ℕ) (k : Kind)
+    (grants : Bus.refuses k (seen d s .copy w q) ≡ false) where
   -- q has nothing of w
   pub nothing-asked : seen d s .copy w q ≡ none → Asked d k w q s s
-  nothing-asked e = record { fit = F; at = same-at q w same-refl; copy = e ∙ sym (ap (snoops k) e ∙ none-stays k); memory = sym (ap (λ (c : Copy). supplied c (wordAt s w)) e); kept = λ p lp n. own-refl }
+  nothing-asked e =
+      record {
+        fit = F;
+        at = same-at q w same-refl;
+        copy = e ∙ sym (ap (snoops k) e ∙ none-stays k);
+        memory =
+            sym (ap (λ (c : Copy). supplied c (wordAt s w)) e);
+        kept = λ p lp n. own-refl;
+      }
     where
       none-stays : (k : Kind) → snoops k none ≡ none
       none-stays reading = refl
@@ -170,7 +179,8 @@ module _ {d : Dims} {s : Caches} (F : Fit d s) (q : ℕ) (lq : q < d .processors
             valid-line main ∙ sym (ap (snoops k) was ∙ rw ek))
         by owning ek =
             whole noEntry none-range (inl refl) tt
-            (line-out (d .entries) (home d) (F .tidy) refl (change noEntry none-range (inl refl) tt) refl old refl main ∙ sym (ap (snoops k) was ∙ rw ek))
+            (line-out (d .entries) (home d) (F .tidy) refl (change noEntry none-range (inl refl) tt) refl old refl main ∙ sym
+            (ap (snoops k) was ∙ rw ek))
 
   -- q's NORMAL or tentative one, at entry i
   module _ (i : ℕ) (li : i < d .entries) (e : Entry) (h : entryAt s q i ≡ e) (r : InRange e) (ew : e .word ≡ w) where
@@ -196,7 +206,8 @@ module _ {d : Dims} {s : Caches} (F : Fit d s) (q : ℕ) (lq : q < d .processors
         memory = m;
         kept = λ p lp n. record {
           entries = λ j l.
-              copy-else (s .entries) (F .frame .entries .long) q i (omega (arith, F .frame .size .processors)) (omega (arith, F .frame .size .entries)) to rt
+              copy-else (s .entries) (F .frame .entries .long) q i (omega (arith, F .frame .size .processors))
+              (omega (arith, F .frame .size .entries)) to rt
               p j lp l (inl n);
           lines = λ j l. refl;
         };
@@ -226,11 +237,13 @@ module _ {d : Dims} {s : Caches} (F : Fit d s) (q : ℕ) (lq : q < d .processors
         by reading ek =
             let b = back-is (d .entries) (home d) (decoded d s .slot q) (decoded d s .line q) w in
             let g = turned (d .entries) (home d) (F .tidy) li (turn (withState e VALID) (left-range reading e r) (valid-fits tagged))
-            (slot-normal-at F q lq w i li e h ew ht) refl (rw sl refl) (is-self w) (rw sl (is-self w)) (λ z. absurd (false≢true z)) (backing F q lq w) b in
+            (slot-normal-at F q lq w i li e h ew ht) refl (rw sl refl) (is-self w) (rw sl (is-self w)) (λ z. absurd (false≢true z))
+            (backing F q lq w) b in
             asked-by (withState e VALID) (left-range reading e r) (valid-fits tagged) (g .0) (g .1)
             (g .3 ∙ (ap (λ (x : Slot). slotCopy x (backing F q lq w)) sl ∙ sym (ap (snoops k) was ∙ rw ek))) mem
         by owning ek =
-            let g = normal-gone (d .entries) (home d) (F .tidy) li (turn noEntry none-range (inl refl)) refl (slot-normal-at F q lq w i li e h ew ht) in
+            let g = normal-gone (d .entries) (home d) (F .tidy) li (turn noEntry none-range (inl refl)) refl
+            (slot-normal-at F q lq w i li e h ew ht) in
             asked-by noEntry none-range (inl refl) (g .0) (g .1) (g .3 ∙ sym (ap (snoops k) was ∙ rw ek)) mem
 
     -- a tentative copy that does not refuse is VALID, and the request a T_READ or READ: it stays

@@ -68,15 +68,18 @@ module _ {d : Dims} {s : Caches} (Z : Sound d s) (values : (w : ℕ) → wordAt 
 
           off : (k k′ : View.Copy) → Main s p w k → Main s q w k′ → exclusive k ≡ true → ⊥
           off k k′ a b h =
-              let u = sym (above-code (a .copy .state) (copy-range (a .held-by) .state) (a .held)) ∙ (ap above (a .state) ∙ (sym (exclusive-main k) ∙ h)) in
-              Z .exclusive p q (a .copy) (b .copy) (eight p l) (eight q r) (λ z. n (sym z)) (a .held-by) (b .held-by) (leb-true RESERVED (a .copy .state) u) (b .held)
+              let u = sym (above-code (a .copy .state) (copy-range (a .held-by) .state) (a .held)) ∙
+              (ap above (a .state) ∙ (sym (exclusive-main k) ∙ h)) in
+              Z .exclusive p q (a .copy) (b .copy) (eight p l) (eight q r) (λ z. n (sym z)) (a .held-by) (b .held-by)
+              (leb-true RESERVED (a .copy .state) u) (b .held)
               (b .word ∙ sym (a .word))
 
           one : (k : View.Copy) → seen d s .copy w p ≡ k → exclusive k ≡ true → (k′ : View.Copy) → seen d s .copy w q ≡ k′ → k′ ≡ none
           one k e h none e′ = refl
           one k e h (regular a b) e′ = absurd (off k (regular a b) (main p w l k e (has-of k h)) (main q w r (regular a b) e′ refl) h)
           one k e h (normal a b) e′ = absurd (off k (normal a b) (main p w l k e (has-of k h)) (main q w r (normal a b) e′ refl) h)
-          one k e h (tentative a b y t) e′ = absurd (off k (tentative a b y t) (main p w l k e (has-of k h)) (main q w r (tentative a b y t) e′ refl) h)
+          one k e h (tentative a b y t) e′ =
+              absurd (off k (tentative a b y t) (main p w l k e (has-of k h)) (main q w r (tentative a b y t) e′ refl) h)
 
   equal : (w p : ℕ) → agrees (seen d s .copy w p) (wordAt s w)
   equal w p = go (decLt p (d .processors))

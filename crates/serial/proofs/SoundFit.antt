@@ -46,7 +46,8 @@ backup-says w e h = by (eqb (e .tag) NORMAL) (eqb (e .tag) BACKUP) (eqb (e .tag)
 pub line-says : (w : ℕ) (e : Entry) → regOn w (lineOf e) ≡ true → (e .state ≢ INVALID) × (e .word ≡ w)
 line-says w e h = by (eqb (e .state) INVALID) refl h
   where
-    by : (z : Bool) → eqb (e .state) INVALID ≡ z → regOn w (pick z blank (filled (stateOf (e .state)) (e .word) (e .«data»))) ≡ true → (e .state ≢ INVALID) × (e .word ≡ w)
+    by : (z : Bool) → eqb (e .state) INVALID ≡ z → regOn w (pick z blank (filled (stateOf (e .state)) (e .word) (e .«data»))) ≡ true
+        → (e .state ≢ INVALID) × (e .word ≡ w)
     by true hz h = absurd (false≢true h)
     by false hz h = (eqb-false (e .state) INVALID hz, is-true (e .word) w h)
 
@@ -114,7 +115,8 @@ module _ {d : Dims} {s : Caches} (Z : Sound d s) (values : (w : ℕ) → wordAt 
   }
     where
       past : (w : ℕ) → d .words ≤ w → getD (s .memory) w 0 ≡ 0
-      past w l = elim (decLt w 256) [ yes h ↦ Z .memory-inside w h l | no h ↦ List·getD-eq-default (s .memory) 0 {n = w} (omega (arith, Z .lengths .memory)) ]
+      past w l = elim (decLt w 256)
+          [ yes h ↦ Z .memory-inside w h l | no h ↦ List·getD-eq-default (s .memory) 0 {n = w} (omega (arith, Z .lengths .memory)) ]
 
   -- an entry that is tagged is held
   held : (p i tag : ℕ) → p < 8 → i < 64 → entryAt s p i .tag ≡ tag → tag ≢ INVALID → entryAt s p i .state ≢ INVALID
@@ -162,7 +164,8 @@ module _ {d : Dims} {s : Caches} (Z : Sound d s) (values : (w : ℕ) → wordAt 
             let y = line-says w (lineAt s p (home d w)) (rw q at r) in
             Z .regular-or-other p (home d w) i lp8 (omega (arith, home-in size w, size .lines)) (li64 i l) (y .0) (x .0) (x .1) (y .1 ∙ sym (x .2)))
 
-        paired : (w j : ℕ) → j < d .entries → backOn w (decoded d s .slot p j) ≡ true → (i : ℕ) × (i < d .entries) × (tentOn w (decoded d s .slot p i) ≡ true)
+        paired : (w j : ℕ) → j < d .entries → backOn w (decoded d s .slot p j) ≡ true → (i : ℕ) × (i < d .entries)
+            × (tentOn w (decoded d s .slot p i) ≡ true)
         paired w j l h =
             let x = backup-says w (entryAt s p j) (rw (slot-at j l) at h) in
             let t = Z .backup-needs p j lp8 (li64 j l) (held p j BACKUP lp8 (li64 j l) (x .0) (λ z. omega arith)) (x .0) in

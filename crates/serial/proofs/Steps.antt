@@ -33,7 +33,8 @@ use Rattle.serial.proofs.Normal.{began}
 use Rattle.serial.proofs.Miss.{miss-does}
 
 -- TSTATUS is true, and p has no regular copy
-module _ {d : Dims} (a : Access) (p : ℕ) (lp : p < d .processors) (w : ℕ) (lw : w < d .words) (v : ℕ) (lv : v < valueEnd) {S : View} (k : Counted) (F : Fit d (k .after))
+module _ {d : Dims} (a : Access) (p : ℕ) (lp : p < d .processors) (w : ℕ) (lw : w < d .words) (v : ℕ) (lv : v < valueEnd) {S : View} (k : Counted)
+    (F : Fit d (k .after))
     (O : (T : View) → Starts p w (seen d (k .after)) T → Opened p w S T) (nr : isRegular (seen d (k .after) .copy w p) ≡ false) where
   seek-does : Does d S (byAccess p w v) (seek d (number a) p w v k)
   unfolding seek
@@ -51,16 +52,19 @@ module _ {d : Dims} (a : Access) (p : ℕ) (lp : p < d .processors) (w : ℕ) (l
       by : (x : Bool) → ltb i (d .entries) ≡ x → (y : Bool) → ltb j (d .entries) ≡ y
           → Does d S (byAccess p w v)
           (pick x (hit d (number a) p i w v (k .writes) 0 s)
-          (pick y (hit d (number a) p j w v (k .writes) (openNormal d p j s .writes) (openNormal d p j s .after)) (miss d (number a) p w v (k .writes) s)))
+          (pick y (hit d (number a) p j w v (k .writes) (openNormal d p j s .writes) (openNormal d p j s .after))
+          (miss d (number a) p w v (k .writes) s)))
       by true hx y hy =
           let l = ltb-true i (d .entries) hx in
           let t = found-tag s p (d .entries) TENTATIVE w l in
           let u = found-word s p (d .entries) TENTATIVE w l in
-          hit-does p lp w v lv F (O (seen d s) (not-normal (rw (has-tentative F p lp w i l (entryAt s p i) refl u t)) same-refl)) i l t u a (k .writes) 0
+          hit-does p lp w v lv F (O (seen d s) (not-normal (rw (has-tentative F p lp w i l (entryAt s p i) refl u t)) same-refl)) i l t u a
+          (k .writes) 0
       by false hx true hy =
           let l = ltb-true j (d .entries) hy in
           let g = began F p lp w j l (found-tag s p (d .entries) NORMAL w l) (found-word s p (d .entries) NORMAL w l) in
-          hit-does p lp w v lv (g .fit) (O (seen d (openNormal d p j s .after)) (opens (g .begun))) j l (g .tag) (g .word) a (k .writes) (openNormal d p j s .writes)
+          hit-does p lp w v lv (g .fit) (O (seen d (openNormal d p j s .after)) (opens (g .begun))) j l (g .tag) (g .word) a (k .writes)
+          (openNormal d p j s .writes)
       by false hx false hy =
           let nn = no-normal F p lp w (ltb-false j (d .entries) hy) in
           miss-does a p lp w lw v lv F (O (seen d s) (not-normal nn same-refl))

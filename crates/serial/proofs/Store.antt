@@ -58,8 +58,14 @@ unheld {d} {s} F p lp w = by (ltb i (d .entries)) refl
     by true h =
         let l = ltb-true i (d .entries) h in
         let U = rollback-is F p lp in
-        let c = has-tentative F p lp w i l (entryAt s p i) refl (found-word s p (d .entries) TENTATIVE w l) (found-tag s p (d .entries) TENTATIVE w l) in
-        record { fit = rollback-fit F p lp; gives-up = re-tent (rw c) U; not-tentative = rw (U .cache .here w) (rolledBack-tentative (seen d s .copy w p)) }
+        let c = has-tentative F p lp w i l (entryAt s p i) refl (found-word s p (d .entries) TENTATIVE w l)
+        (found-tag s p (d .entries) TENTATIVE w l) in
+        record {
+          fit = rollback-fit F p lp;
+          gives-up = re-tent (rw c) U;
+          not-tentative =
+              rw (U .cache .here w) (rolledBack-tentative (seen d s .copy w p));
+        }
     by false h = let z = no-tentative F p lp w (ltb-false i (d .entries) h) in record { fit = F; gives-up = un-tent z same-refl; not-tentative = z }
 
 -- the NORMAL copy is given up
@@ -128,7 +134,8 @@ module _ {d : Dims} (p : ℕ) (lp : p < d .processors) (w : ℕ) (lw : w < d .wo
 
     free : (i : ℕ) → i < d .entries → mainOn w (decoded d s .slot p i) ≡ false
     free =
-        line-main (d .entries) (home d) (decoded d s .slot p) (decoded d s .line p) (decoded d s .line p) (F .tidy p) w (home d w) refl (λ g i. refl) full
+        line-main (d .entries) (home d) (decoded d s .slot p) (decoded d s .line p) (decoded d s .line p) (F .tidy p) w (home d w) refl
+        (λ g i. refl) full
 
     old : lineIs w (decoded d s .line p (home d w))
     old = rw full refl
@@ -157,7 +164,8 @@ module _ {d : Dims} (p : ℕ) (lp : p < d .processors) (w : ℕ) (lw : w < d .wo
     unfolding Store.storeThrough
     through-does n x = record {
       fit = lined-fit F₂ p lp w h refl M (entry RESERVED INVALID w v) r f refl old₂ free₂;
-      step = store-through U N (has-regular F p lp w line refl o ∙ ap (λ (c : ℕ). regular (stateOf c) (line .«data»)) (eqb-true (line .state) VALID x)) (bus .1)
+      step = store-through U N
+          (has-regular F p lp w line refl o ∙ ap (λ (c : ℕ). regular (stateOf c) (line .«data»)) (eqb-true (line .state) VALID x)) (bus .1)
           (lined-at F₂ p lp w h refl M (entry RESERVED INVALID w v) r f refl old₂ free₂)
           (lined-regular F₂ p lp w h refl M (entry RESERVED INVALID w v) r f refl old₂ free₂ refl)
           (getD-set-same (s₂ .memory) w v 0 (omega (arith, F₂ .frame .memory .long, F .frame .size .words)));
@@ -189,7 +197,8 @@ module _ {d : Dims} (p : ℕ) (lp : p < d .processors) (w : ℕ) (lw : w < d .wo
 
         free₂ : (i : ℕ) → i < d .entries → mainOn w (decoded d s₂ .slot p i) ≡ false
         free₂ =
-            line-main (d .entries) (home d) (decoded d s₂ .slot p) (decoded d s₂ .line p) (decoded d s₂ .line p) (F₂ .tidy p) w (home d w) refl (λ g i. refl)
+            line-main (d .entries) (home d) (decoded d s₂ .slot p) (decoded d s₂ .line p) (decoded d s₂ .line p) (F₂ .tidy p) w (home d w) refl
+            (λ g i. refl)
             full₂
 
   -- a miss
@@ -253,4 +262,5 @@ unfolding Store.store
 store-does {d} {s} F p lp w lw v lv =
     let u = unheld F p lp w in
     let b = bared (u .fit) p lp w (u .not-tentative) in
-    line-does p lp w lw v lv (b .fit) (u .gives-up) (b .clears) (Store.dropNormal d p w (Store.rollOwn d p w s) .writes) (b .not-normal) (b .not-tentative)
+    line-does p lp w lw v lv (b .fit) (u .gives-up) (b .clears) (Store.dropNormal d p w (Store.rollOwn d p w s) .writes) (b .not-normal)
+    (b .not-tentative)

@@ -64,7 +64,8 @@ module _ {d : Dims} {s : Caches} (F : Fit d s) (p : ℕ) (lp : p < d .processors
   pub main-entry : (k : Copy) → seen d s .copy w p ≡ k → has k ≡ true → Main s p w k
   main-entry none e h = absurd (false≢true h)
   main-entry (regular x y) e h =
-      let r = line-says w (lineAt s p (home d w)) (ap (regOn w) (sym (line-at F p lp w)) ∙ look-reg (d .entries) (home d) (decoded d s .slot p) (decoded d s .line p) w e) in
+      let r = line-says w (lineAt s p (home d w))
+      (ap (regOn w) (sym (line-at F p lp w)) ∙ look-reg (d .entries) (home d) (decoded d s .slot p) (decoded d s .line p) w e) in
       let o = both-true (not (eqb (lineAt s p (home d w) .state) INVALID)) (eqb (lineAt s p (home d w) .word) w)
       (ap not (ne-eqb (lineAt s p (home d w) .state) INVALID (r .0))) (eq-eqb (lineAt s p (home d w) .word) w (r .1)) in
       let c = sym (has-regular F p lp w (lineAt s p (home d w)) refl o) ∙ e in
@@ -119,7 +120,8 @@ module _ {d : Dims} {s : Caches} (F : Fit d s) (p : ℕ) (lp : p < d .processors
 
   -- and the other way: a backup shows behind a tentative copy
   pub has-backup : (j : ℕ) → j < d .entries → entryAt s p j .tag ≡ BACKUP → entryAt s p j .word ≡ w
-      → (x : LineState) × (y : ℕ) × (t : Bool) × (seen d s .copy w p ≡ tentative x y (backup (stateOf (entryAt s p j .state)) (entryAt s p j .«data»)) t)
+      → (x : LineState) × (y : ℕ) × (t : Bool)
+      × (seen d s .copy w p ≡ tentative x y (backup (stateOf (entryAt s p j .state)) (entryAt s p j .«data»)) t)
   has-backup j l ht hw = from (F .tidy p .paired w j l (rw full (is-self w)))
     where
       full : decoded d s .slot p j ≡ slotBackup (stateOf (entryAt s p j .state)) w (entryAt s p j .«data»)
@@ -128,11 +130,13 @@ module _ {d : Dims} {s : Caches} (F : Fit d s) (p : ℕ) (lp : p < d .processors
           (backup-slot (entryAt s p j) ht ∙ ap (λ (u : ℕ). slotBackup (stateOf (entryAt s p j .state)) u (entryAt s p j .«data»)) hw)
 
       from : (i : ℕ) × (i < d .entries) × (tentOn w (decoded d s .slot p i) ≡ true)
-          → (x : LineState) × (y : ℕ) × (t : Bool) × (seen d s .copy w p ≡ tentative x y (backup (stateOf (entryAt s p j .state)) (entryAt s p j .«data»)) t)
+          → (x : LineState) × (y : ℕ) × (t : Bool)
+          × (seen d s .copy w p ≡ tentative x y (backup (stateOf (entryAt s p j .state)) (entryAt s p j .«data»)) t)
       from (i, li, h) = go (decoded d s .slot p i) refl h
         where
           go : (z : Slot) → decoded d s .slot p i ≡ z → tentOn w z ≡ true
-              → (x : LineState) × (y : ℕ) × (t : Bool) × (seen d s .copy w p ≡ tentative x y (backup (stateOf (entryAt s p j .state)) (entryAt s p j .«data»)) t)
+              → (x : LineState) × (y : ℕ) × (t : Bool)
+              × (seen d s .copy w p ≡ tentative x y (backup (stateOf (entryAt s p j .state)) (entryAt s p j .«data»)) t)
           go vacant e h = absurd (false≢true h)
           go (slotNormal a u x) e h = absurd (false≢true h)
           go (slotBackup a u x) e h = absurd (false≢true h)

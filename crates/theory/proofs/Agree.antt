@@ -44,7 +44,8 @@ agree-at {S} {S′} {M} {M′} p w A at W e l = record { words = ws; live = lv }
         go (no n) d = A .live u q (rw (at .word-else u n q) at h)
 
 -- a tentative copy comes only from one, or in a live transaction
-pub mv-live : {live low alone : Type 0} {m m′ : ℕ} {k k′ : Copy} → Move live low alone m k m′ k′ → (isTentative k ≡ true → live) → isTentative k′ ≡ true → live
+pub mv-live : {live low alone : Type 0} {m m′ : ℕ} {k k′ : Copy} → Move live low alone m k m′ k′ → (isTentative k ≡ true → live)
+    → isTentative k′ ≡ true → live
 mv-live drop-reg g h = g h
 mv-live drop-norm g h = g h
 mv-live drop-back g h = g h
@@ -97,13 +98,16 @@ committed-tentative (normal s d) = refl
 committed-tentative (tentative s d b t) = refl
 
 pub agree-undo : {S S′ : View} {M : ℕ → ℕ} (p : ℕ) → Agree S M → OnlyProcessor rolledBack p S S′ → Agree S′ M
-agree-undo {S} p A c = agree-cache p A c (λ w. rolled (A .words w) p (c .here w) (c .else w)) (λ w h. absurd (true≢false (sym h ∙ rolledBack-tentative (S .copy w p))))
+agree-undo {S} p A c =
+    agree-cache p A c (λ w. rolled (A .words w) p (c .here w) (c .else w)) (λ w h. absurd (true≢false (sym h ∙ rolledBack-tentative (S .copy w p))))
 
 pub agree-commit : {S S′ : View} {M : ℕ → ℕ} (p : ℕ) → Agree S M → OnlyProcessor committed p S S′ → Agree S′ (λ w. ownValue (S .copy w p) (M w))
-agree-commit {S} p A c = agree-cache p A c (λ w. committedWord (A .words w) p (c .here w) (c .else w)) (λ w h. absurd (true≢false (sym h ∙ committed-tentative (S .copy w p))))
+agree-commit {S} p A c = agree-cache p A c (λ w. committedWord (A .words w) p (c .here w) (c .else w))
+    (λ w h. absurd (true≢false (sym h ∙ committed-tentative (S .copy w p))))
 
 -- only p's flags change: where it holds something tentatively, it stays live
-pub agree-flags : {S S′ : View} {M : ℕ → ℕ} (p : ℕ) → Agree S M → OnlyProcessor same p S S′ → ((w : ℕ) → isTentative (S .copy w p) ≡ true → Live S′ p) → Agree S′ M
+pub agree-flags : {S S′ : View} {M : ℕ → ℕ} (p : ℕ) → Agree S M → OnlyProcessor same p S S′
+    → ((w : ℕ) → isTentative (S .copy w p) ≡ true → Live S′ p) → Agree S′ M
 agree-flags {S} {S′} p A c l = agree-cache p A c (λ w. word-same (A .words w) refl (all w) refl) l
   where
     all : (w q : ℕ) → S′ .copy w q ≡ S .copy w q

@@ -123,7 +123,8 @@ module _ (E : ℕ) (home : ℕ → ℕ) (slot : ℕ → Slot) (line : ℕ → Li
 
   pub data Has (w : ℕ) : Copy → Type 0 where
     in-line : {k : Copy} → regOn w (line (home w)) ≡ true → regCopy (line (home w)) ≡ k → Has w k
-    in-slot : {k : Copy} {b : Back} (i : ℕ) → i < E → regOn w (line (home w)) ≡ false → mainOn w (slot i) ≡ true → Backs w b → slotCopy (slot i) b ≡ k → Has w k
+    in-slot : {k : Copy} {b : Back} (i : ℕ) → i < E → regOn w (line (home w)) ≡ false → mainOn w (slot i) ≡ true → Backs w b
+        → slotCopy (slot i) b ≡ k → Has w k
     nowhere : {k : Copy} → regOn w (line (home w)) ≡ false → ((i : ℕ) → i < E → mainOn w (slot i) ≡ false) → none ≡ k → Has w k
 
   -- and as a function
@@ -320,9 +321,11 @@ module _ (E : ℕ) (home : ℕ → ℕ) (slot slot′ : ℕ → Slot) (line line
         reg-settle blank = refl
         reg-settle (filled s u d) = refl
     settle-has w k (in-slot {b = b} i l r m bk e) =
-        in-slot {k = committed k} {b = bare} i l (rw (sameLine (home w)) r) (rw (all i l) (settle-main w (slot i) ∙ m)) (unbacked (λ j l′. rw (all j l′) (settle-backs w (slot j))) refl)
+        in-slot {k = committed k} {b = bare} i l (rw (sameLine (home w)) r) (rw (all i l) (settle-main w (slot i) ∙ m))
+        (unbacked (λ j l′. rw (all j l′) (settle-backs w (slot j))) refl)
         (rw (all i l, ← e) (settle-copy w (slot i) b m))
-    settle-has w k (nowhere r g y) = nowhere {k = committed k} (rw (sameLine (home w)) r) (λ i l. rw (all i l) (settle-main w (slot i) ∙ g i l)) (ap committed y)
+    settle-has w k (nowhere r g y) =
+        nowhere {k = committed k} (rw (sameLine (home w)) r) (λ i l. rw (all i l) (settle-main w (slot i) ∙ g i l)) (ap committed y)
 
     pub look-settle : (w : ℕ) → look E home slot′ line′ w ≡ committed (look E home slot line w)
     look-settle w = looks E home slot′ line′ tidy-settle w _ (settle-has w _ (look-is E home slot line w))
@@ -375,14 +378,16 @@ module _ (E : ℕ) (home : ℕ → ℕ) (slot slot′ : ℕ → Slot) (line line
 
         go : (x : Slot) → slot i ≡ x → Backs E home slot line w b → Has E home slot′ line′ w (rolledBack k)
         go vacant y bk = absurd (false≢true (rw y at m))
-        go (slotNormal s u d) y bk = in-slot {k = rolledBack k} {b = bare} i l r′ (rw (all i l, y) (rw y at m)) (unbacked ub refl) (rw (all i l, ← e, y))
+        go (slotNormal s u d) y bk =
+            in-slot {k = rolledBack k} {b = bare} i l r′ (rw (all i l, y) (rw y at m)) (unbacked ub refl) (rw (all i l, ← e, y))
         go (slotBackup s u d) y bk = absurd (false≢true (rw y at m))
         go (slotTentative s u d t) y (backed j l′ h z) = from (slot j) refl
           where
             from : (x : Slot) → slot j ≡ x → Has E home slot′ line′ w (rolledBack k)
             from vacant q = absurd (false≢true (rw q at h))
             from (slotNormal s u d) q = absurd (false≢true (rw q at h))
-            from (slotBackup s u d) q = in-slot {k = rolledBack k} {b = bare} j l′ r′ (rw (all j l′, q) (rw q at h)) (unbacked ub refl) (rw (all j l′, ← e, y, ← z, q))
+            from (slotBackup s u d) q =
+                in-slot {k = rolledBack k} {b = bare} j l′ r′ (rw (all j l′, q) (rw q at h)) (unbacked ub refl) (rw (all j l′, ← e, y, ← z, q))
             from (slotTentative s u d t) q = absurd (false≢true (rw q at h))
         go (slotTentative s u d t) y (unbacked g z) = nowhere {k = rolledBack k} r′ off (rw (← e, y, ← z))
           where

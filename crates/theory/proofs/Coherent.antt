@@ -24,12 +24,15 @@ agree-shown {M = M} A (loads p w s h) = record { vals = M; agree = agree-silent 
 agree-shown {M = M} A (stores p w {v = v} at was u here) = record {
   vals = put M w v;
   agree =
-      agree-at p w A at (rw (put-here M w v) (stored (A .words w) p (λ q n. A .words w .only p q (rw was u) n) here (at .proc-else) (λ h. absurd (true≢false h)))) (λ u n. put-else M w v u n) (λ h. absurd (true≢false (cc)));
+      agree-at p w A at
+      (rw (put-here M w v) (stored (A .words w) p (λ q n. A .words w .only p q (rw was u) n) here (at .proc-else) (λ h. absurd (true≢false h))))
+      (λ u n. put-else M w v u n) (λ h. absurd (true≢false (cc)));
 }
 agree-shown {M = M} A (writes p w {v = v} at was al here e) = record {
   vals = put M w v;
   agree =
-      agree-at p w A at (rw (put-here M w v) (stored (A .words w) p al here (at .proc-else) e)) (λ u n. put-else M w v u n) (λ h. absurd (true≢false (cc)));
+      agree-at p w A at (rw (put-here M w v) (stored (A .words w) p al here (at .proc-else) e)) (λ u n. put-else M w v u n)
+      (λ h. absurd (true≢false (cc)));
 }
 agree-shown {M = M} A (treads p w s was) = record { vals = M; agree = agree-silent A (still s) }
 agree-shown {M = M} A (twrites p w at was u here em) = record {
@@ -50,8 +53,10 @@ agree-run {M = M} A done = record { vals = M; agree = A }
 agree-run A (quietly s r) = agree-run (agree-silent A s) r
 agree-run A (showing s r) = agree-run (agree-shown A s .agree) r
 
-pub coherent-run : {S S′ : View} {es : List Event} (n : ℕ) → Coherent n S → ((w p : ℕ) → coarse (S .copy w p)) → Within n S′ → Run S es S′ → Coherent n S′
+pub coherent-run : {S S′ : View} {es : List Event} (n : ℕ) → Coherent n S → ((w p : ℕ) → coarse (S .copy w p)) → Within n S′ → Run S es S′
+    → Coherent n S′
 coherent-run n C co b r = agree→coherent n (agree-run (coherent→agree n C co) r .agree) b
 
-pub coherent-step : {S S′ : View} {es : List Event} (n : ℕ) → Coherent n S → ((w p : ℕ) → coarse (S .copy w p)) → Within n S′ → Step n S S′ es → Coherent n S′
+pub coherent-step : {S S′ : View} {es : List Event} (n : ℕ) → Coherent n S → ((w p : ℕ) → coarse (S .copy w p)) → Within n S′ → Step n S S′ es
+    → Coherent n S′
 coherent-step n C co b s = coherent-run n C co b (step-run n (coherent→agree n C co) (C .within) s)

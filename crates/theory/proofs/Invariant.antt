@@ -19,7 +19,8 @@ pub record Inv (S : View) (P : Plain) : Type 0 where
   pub agree : Agree S (P .val)
   pub logs : (p : ℕ) → S .status p ≡ true → Good (P .log p) (P .val) (λ w. S .copy w p)
 
-pub mv-tv : {live low alone : Type 0} {m m′ x : ℕ} {k k′ : Copy} → Move live low alone m k m′ k′ → fine k x → (low → owns k ≡ false → m ≡ x) → (alone → low) → ownValue k′ x ≡ ownValue k x
+pub mv-tv : {live low alone : Type 0} {m m′ x : ℕ} {k k′ : Copy} → Move live low alone m k m′ k′ → fine k x → (low → owns k ≡ false → m ≡ x)
+    → (alone → low) → ownValue k′ x ≡ ownValue k x
 mv-tv drop-reg f g w = refl
 mv-tv drop-norm f g w = refl
 mv-tv drop-back f g w = refl
@@ -129,13 +130,15 @@ commit-else {m} {x} {c} p q W n t = go (c p) refl
     go (tentative reserved d b t) e = absurd (off (rw e))
     go (tentative dirty d b t) e = absurd (off (rw e))
 
-inv-store : {S S′ : View} {P : Plain} (p w : ℕ) {s : LineState} {v : ℕ} → Inv S P → At p w S S′ → isTentative (S .copy w p) ≡ false → Alone (S .copy w) p
+inv-store : {S S′ : View} {P : Plain} (p w : ℕ) {s : LineState} {v : ℕ} → Inv S P → At p w S S′ → isTentative (S .copy w p) ≡ false
+    → Alone (S .copy w) p
     → S′ .copy w p ≡ regular s v → (isDirty s ≡ false → S′ .memory w ≡ v) → Inv S′ (next (store p w v) P)
 inv-store {S} {S′} {P} p w {s} {v} I at was al here g = record {
   agree = agree-at p w (I .agree) at (rw (put-here (P .val) w v) (stored (I .agree .words w) p al here (at .proc-else) g))
       (λ u n. put-else (P .val) w v u n) (λ h. absurd (true≢false (cc)));
   logs = λ q h. good-at p w at q (good-memory (I .logs q (sym (at .status-same q) ∙ h)) (λ u t. put-else (P .val) w v u (λ e. free q (rw e at t))))
-      ((λ t. absurd (true≢false (cc))), (λ t. absurd (true≢false (sym t ∙ unstored (S .copy w p) was)))) (rw here (sym (plain-tv (S .copy w p) _ was)));
+      ((λ t. absurd (true≢false (cc))), (λ t. absurd (true≢false (sym t ∙ unstored (S .copy w p) was))))
+      (rw here (sym (plain-tv (S .copy w p) _ was)));
 }
   where
     free : (q : ℕ) → isTentative (S .copy w q) ≡ true → ⊥
@@ -157,7 +160,8 @@ inv-shown {S} {S′} {P} I (treads p w {s} {x} {b} e was) = (tt, inv-silent J (s
 inv-shown {S} {S′} {P} I (twrites p w {s} {d} {v} {b} at was u here em) = (
   tt,
   record {
-    agree = agree-at p w (I .agree) at (rw em (tstored (I .agree .words w) p was u here (at .proc-else))) (λ u n. refl) (λ h. I .agree .live w p (rw was));
+    agree = agree-at p w (I .agree) at (rw em (tstored (I .agree .words w) p was u here (at .proc-else))) (λ u n. refl)
+        (λ h. I .agree .live w p (rw was));
     logs = logs-put (P .log) p (write w v ∷ P .log p) (λ l q. S′ .status q ≡ true → Good l (P .val) (λ u. S′ .copy u q))
         (λ h. good-write w v (I .logs p (sym (at .status-same p) ∙ h)) (rw here) (rw here) (rw here) (λ u n. at .word-else u n p))
         (λ q n h. good-same (I .logs q (sym (at .status-same q) ∙ h)) (λ u. at-else p w at u q n));
@@ -166,9 +170,11 @@ inv-shown {S} {S′} {P} I (twrites p w {s} {d} {v} {b} at was u here em) = (
 inv-shown {S} {S′} {P} I (releases p w {s} {d} {b} at was here em) = (
   tt,
   record {
-    agree = agree-at p w (I .agree) at (rw em (released (I .agree .words w) p was here (at .proc-else))) (λ u n. refl) (λ h. I .agree .live w p (rw was));
+    agree = agree-at p w (I .agree) at (rw em (released (I .agree .words w) p was here (at .proc-else))) (λ u n. refl)
+        (λ h. I .agree .live w p (rw was));
     logs = logs-put (P .log) p (forget w (P .log p)) (λ l q. S′ .status q ≡ true → Good l (P .val) (λ u. S′ .copy u q))
-        (λ h. good-forget w (I .logs p (sym (at .status-same p) ∙ h)) (rw was) (rw (here, was) (sym ((rw was at (I .agree .words w .holds p)) .0 refl))) (λ u n. at .word-else u n p))
+        (λ h. good-forget w (I .logs p (sym (at .status-same p) ∙ h)) (rw was)
+        (rw (here, was) (sym ((rw was at (I .agree .words w .holds p)) .0 refl))) (λ u n. at .word-else u n p))
         (λ q n h. good-same (I .logs q (sym (at .status-same q) ∙ h)) (λ u. at-else p w at u q n));
   },
 )
@@ -178,7 +184,9 @@ inv-shown {S} {S′} {P} I (commits p st c) = (
     agree = agree-ext (agree-commit p (I .agree) c) (I .logs p st .vals);
     logs = logs-put (P .log) p [] (λ l q. S′ .status q ≡ true → Good l (replay (P .log p) (P .val)) (λ u. S′ .copy u q))
         (λ h. good-empty (λ w. rw (c .here w) (committed-tentative (S .copy w p))))
-        (λ q n h. good-same (good-memory (I .logs q (sym (c .status-else q n) ∙ h)) (λ u t. I .logs p st .vals u ∙ commit-else p q (I .agree .words u) n t)) (λ u. c .else u q n));
+        (λ q n h. good-same
+        (good-memory (I .logs q (sym (c .status-else q n) ∙ h)) (λ u t. I .logs p st .vals u ∙ commit-else p q (I .agree .words u) n t))
+        (λ u. c .else u q n));
   },
 )
 inv-shown {S} {S′} {P} I (drops p no-tent c) = (

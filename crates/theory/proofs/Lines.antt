@@ -19,7 +19,8 @@ module _ (E : ℕ) (home : ℕ → ℕ) (slot : ℕ → Slot) (line line′ : �
     (u h : ℕ) (home-u : home u ≡ h) (else : (g : ℕ) → g ≢ h → line′ g ≡ line g) where
   module _ {x y : Line} (was : line h ≡ x) (here : line′ h ≡ y) (xu : lineIs u x) (yu : lineIs u y) where
     line-calm : (w : ℕ) → w ≢ u → LineCalm w (line (home w)) (line′ (home w))
-    line-calm w n = elim (ℕ-discrete (home w) h) [ yes e ↦ inr (rw (e, was) (line-off u x xu w n), rw (e, here) (line-off u y yu w n)) | no m ↦ inl (else (home w) m) ]
+    line-calm w n = elim (ℕ-discrete (home w) h)
+        [ yes e ↦ inr (rw (e, was) (line-off u x xu w n), rw (e, here) (line-off u y yu w n)) | no m ↦ inl (else (home w) m) ]
 
     -- the line takes a word that no slot has
     pub tidy-line : ((i : ℕ) → i < E → mainOn u (slot i) ≡ false) → Tidy E home slot line′
@@ -42,8 +43,11 @@ module _ (E : ℕ) (home : ℕ → ℕ) (slot : ℕ → Slot) (line line′ : �
   pub look-line : {s : LineState} {d : ℕ} → line h ≡ filled s u d → look E home slot line u ≡ regular s d
   look-line {s} {d} e = looks E home slot line T u (regular s d) (in-line (rw (home-u, e) (is-self u)) (rw (home-u, e)))
 
-  pub look-blank : (o : (i : ℕ) → i < E → mainOn u (slot i) ≡ false) {x : Line} → line h ≡ x → lineIs u x → line′ h ≡ blank → look E home slot line′ u ≡ none
+  pub look-blank : (o : (i : ℕ) → i < E → mainOn u (slot i) ≡ false) {x : Line} → line h ≡ x → lineIs u x → line′ h ≡ blank
+      → look E home slot line′ u ≡ none
   look-blank o {x} was xu here = looks E home slot line′ (tidy-line {y = blank} was here xu tt o) u none (nowhere (rw (home-u, here)) o refl)
 
-  pub look-filled : (o : (i : ℕ) → i < E → mainOn u (slot i) ≡ false) {x : Line} {s : LineState} {d : ℕ} → line h ≡ x → lineIs u x → line′ h ≡ filled s u d → look E home slot line′ u ≡ regular s d
-  look-filled o {x} {s} {d} was xu here = looks E home slot line′ (tidy-line {y = filled s u d} was here xu refl o) u (regular s d) (in-line (rw (home-u, here) (is-self u)) (rw (home-u, here)))
+  pub look-filled : (o : (i : ℕ) → i < E → mainOn u (slot i) ≡ false) {x : Line} {s : LineState} {d : ℕ} → line h ≡ x → lineIs u x
+      → line′ h ≡ filled s u d → look E home slot line′ u ≡ regular s d
+  look-filled o {x} {s} {d} was xu here = looks E home slot line′ (tidy-line {y = filled s u d} was here xu refl o) u (regular s d)
+      (in-line (rw (home-u, here) (is-self u)) (rw (home-u, here)))

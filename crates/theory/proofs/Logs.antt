@@ -106,7 +106,8 @@ pub good-empty : {M : ℕ → ℕ} {c : ℕ → Copy} → ((w : ℕ) → isTenta
 unfolding replay
 good-empty {M} {c} n = record { reads = tt; held = tt; vals = λ w. sym (plain-tv (c w) (M w) (n w)) }
 
-pub good-read : {l : List Item} {M : ℕ → ℕ} {c : ℕ → Copy} (w x : ℕ) → Good l M c → isTentative (c w) ≡ true → ownValue (c w) (M w) ≡ x → Good (read w x ∷ l) M c
+pub good-read : {l : List Item} {M : ℕ → ℕ} {c : ℕ → Copy} (w x : ℕ) → Good l M c → isTentative (c w) ≡ true → ownValue (c w) (M w) ≡ x
+    → Good (read w x ∷ l) M c
 unfolding replay
 good-read w x G t e = record { reads = (G .vals w ∙ e, G .reads); held = (t, G .held); vals = G .vals }
 

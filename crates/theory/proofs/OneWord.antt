@@ -94,7 +94,8 @@ pub data Move (live low alone : Type 0) : ℕ → Copy → ℕ → Copy → Type
   drop-back : {m d e : ℕ} {s r : LineState} {f : Bool} → Move live low alone m (tentative s d (backup r e) f) (wrote r e m) (tentative s d bare f)
   lower-reg : {m d : ℕ} {s : LineState} → Move live low alone m (regular s d) (wrote s d m) (regular valid d)
   lower-norm : {m d : ℕ} {s : LineState} → Move live low alone m (normal s d) (wrote s d m) (normal valid d)
-  begin-kept : {m d : ℕ} {s : LineState} {f : Bool} → live → (f ≡ true → isDirty s ≡ true) → Move live low alone m (normal s d) m (tentative s d (backup s d) f)
+  begin-kept : {m d : ℕ} {s : LineState} {f : Bool} → live → (f ≡ true → isDirty s ≡ true)
+      → Move live low alone m (normal s d) m (tentative s d (backup s d) f)
   begin-bare : {m d : ℕ} {s : LineState} → live → Move live low alone m (normal s d) (wrote s d m) (tentative (dried s) d bare false)
   fill-reg : {m : ℕ} → low → Move live low alone m none m (regular valid m)
   fill-tent : {m : ℕ} → live → low → Move live low alone m none m (tentative valid m bare false)
@@ -155,7 +156,8 @@ mv-none w (own-tent a z) h = inr (w z)
 mv-none w (own-kept a z) h = inr (w z)
 mv-none w (upgrade z) h = absurd (true≢false h)
 
-pub mv-fine : {live low alone : Type 0} {m m′ x : ℕ} {k k′ : Copy} → Move live low alone m k m′ k′ → fine k x → (low → owns k ≡ false → m ≡ x) → (alone → low) → fine k′ x
+pub mv-fine : {live low alone : Type 0} {m m′ x : ℕ} {k k′ : Copy} → Move live low alone m k m′ k′ → fine k x → (low → owns k ≡ false → m ≡ x)
+    → (alone → low) → fine k′ x
 mv-fine drop-reg f g w = tt
 mv-fine drop-norm f g w = tt
 mv-fine drop-back f g w = (f .0, f .1, tt)
@@ -169,9 +171,11 @@ mv-fine (fill-kept a l) f g w = ((λ h. g l refl), (λ h. absurd (false≢true h
 mv-fine (own-reg z) f g w = g (w z) refl
 mv-fine (own-tent a z) f g w = ((λ h. g (w z) refl), (λ h. absurd (false≢true h)), tt)
 mv-fine (own-kept a z) f g w = ((λ h. g (w z) refl), (λ h. absurd (false≢true h)), (g (w z) refl, refl))
-mv-fine {x = x} (upgrade {b = b} z) f g w = (f .0, (λ h. absurd (false≢true (f .1 h))), back-raise b valid reserved x (λ r. below-valid r reserved) (f .2))
+mv-fine {x = x} (upgrade {b = b} z) f g w =
+    (f .0, (λ h. absurd (false≢true (f .1 h))), back-raise b valid reserved x (λ r. below-valid r reserved) (f .2))
 
-pub mv-cell : {live low alone : Type 0} {m m′ x : ℕ} {k k′ : Copy} → Move live low alone m k m′ k′ → fine k x → (owns k ≡ false → m ≡ x) → owns k′ ≡ false → m′ ≡ x
+pub mv-cell : {live low alone : Type 0} {m m′ x : ℕ} {k k′ : Copy} → Move live low alone m k m′ k′ → fine k x → (owns k ≡ false → m ≡ x)
+    → owns k′ ≡ false → m′ ≡ x
 mv-cell (drop-reg {s = s}) f g h = wrote-is s f g
 mv-cell (drop-norm {s = s}) f g h = wrote-is s f g
 mv-cell (drop-back {r = r}) f g h = wrote-is r (f .2 .0) g
@@ -263,7 +267,8 @@ module _ {m x : ℕ} {c : ℕ → Copy} (W : Word m c x) where
       → Word m c′ x
   tstored p {s} {d} {v} {b} was u here else =
       let f = rw was at (W .holds p) in
-      quiet p was here else (λ h. inl u) (λ h. absurd (true≢false h)) ((λ h. absurd (true≢false h)), (λ h. refl), back-raise b s dirty x (λ r h. below-dirty r) (f .2)) (λ g h. g h)
+      quiet p was here else (λ h. inl u) (λ h. absurd (true≢false h))
+      ((λ h. absurd (true≢false h)), (λ h. refl), back-raise b s dirty x (λ r h. below-dirty r) (f .2)) (λ g h. g h)
 
   -- a tentative copy that was not stored to becomes NORMAL, and its backup goes
   pub released : {c′ : ℕ → Copy} (p : ℕ) {s : LineState} {d : ℕ} {b : Back}
@@ -289,7 +294,8 @@ module _ {m x : ℕ} {c : ℕ → Copy} (W : Word m c x) where
       → c′ p ≡ rolledBack (c p)
       → ((q : ℕ) → q ≢ p → c′ q ≡ c q)
       → Word m c′ x
-  rolled p here else = quiet p refl here else (λ h. inl (roll-excl (c p) x (W .holds p) h)) (λ h. inl (roll-none (c p) h)) (roll-fine (c p) x (W .holds p)) (λ g h. g (sym (roll-owns (c p)) ∙ h))
+  rolled p here else = quiet p refl here else (λ h. inl (roll-excl (c p) x (W .holds p) h)) (λ h. inl (roll-none (c p) h))
+      (roll-fine (c p) x (W .holds p)) (λ g h. g (sym (roll-owns (c p)) ∙ h))
 
   pub committedWord : {c′ : ℕ → Copy} (p : ℕ)
       → c′ p ≡ committed (c p)
@@ -303,7 +309,8 @@ module _ {m x : ℕ} {c : ℕ → Copy} (W : Word m c x) where
       go (normal s d) was here = quiet p was here else inl (λ h. absurd (true≢false h)) (rw was at (W .holds p)) (λ g h. g h)
       go (tentative s d b t) was here =
           let f : fine (tentative s d b t) x = rw was at (W .holds p) in
-          changed W here else (λ h q n. W .only p q (rw was h) n) (λ q n h. gone q n h) refl (others s was (dry-value s d b t x f)) (λ h o. low-cell′ h o f ∙ sym (dry-value s d b t x f h))
+          changed W here else (λ h q n. W .only p q (rw was h) n) (λ q n h. gone q n h) refl (others s was (dry-value s d b t x f))
+          (λ h o. low-cell′ h o f ∙ sym (dry-value s d b t x f h))
         where
           gone : (q : ℕ) → q ≢ p → exclusive (c q) ≡ true → normal s d ≡ none
           gone q n h = let z : true ≡ false = cc (W .only q p h (λ e. n (sym e))) in absurd (true≢false z)

@@ -45,7 +45,8 @@ snoop-silent : {S S′ : View} (k : Bus.Kind) (p w q : ℕ) → Bus.Snooped (Bus
 snoop-silent k p w q (Bus.own e s) h = still s
 snoop-silent {S} {S′} k p w q (Bus.other n at e m) h = go k (S .copy w q) refl (h n) e m
   where
-    go : (k : Bus.Kind) (c : Copy) → S .copy w q ≡ c → Bus.refuses k c ≡ false → S′ .copy w q ≡ Bus.snoops k c → S′ .memory w ≡ Bus.supplied c (S .memory w) → Silent S S′
+    go : (k : Bus.Kind) (c : Copy) → S .copy w q ≡ c → Bus.refuses k c ≡ false → S′ .copy w q ≡ Bus.snoops k c
+        → S′ .memory w ≡ Bus.supplied c (S .memory w) → Silent S S′
     go Bus.reading none i r e m = still (at-still q w at (e ∙ sym i) m)
     go Bus.reading (regular s d) i r e m = move q w at refl m i e lower-reg
     go Bus.reading (normal s d) i r e m = move q w at refl m i e lower-norm
@@ -68,13 +69,15 @@ module _ {f : Copy → Copy} {g : Copy → ℕ → ℕ} {p w q : ℕ} {S S′ : 
 
   snoop-keeps : Bus.Snooped f g p w q S S′ → Kept p w S S′
   snoop-keeps (Bus.own e s) = record { copy-kept = s .copy-same w p; active-kept = s .active-same p; status-kept = s .status-same p }
-  snoop-keeps (Bus.other n at e m) = record { copy-kept = at .proc-else p (λ i. n (sym i)); active-kept = at .active-same p; status-kept = at .status-same p }
+  snoop-keeps (Bus.other n at e m) =
+      record { copy-kept = at .proc-else p (λ i. n (sym i)); active-kept = at .active-same p; status-kept = at .status-same p }
 
 kept-refl : {p w : ℕ} {S : View} → Kept p w S S
 kept-refl = record { copy-kept = refl; active-kept = refl; status-kept = refl }
 
 kept-trans : {p w : ℕ} {S S₁ S₂ : View} → Kept p w S S₁ → Kept p w S₁ S₂ → Kept p w S S₂
-kept-trans a b = record { copy-kept = b .copy-kept ∙ a .copy-kept; active-kept = b .active-kept ∙ a .active-kept; status-kept = b .status-kept ∙ a .status-kept }
+kept-trans a b =
+    record { copy-kept = b .copy-kept ∙ a .copy-kept; active-kept = b .active-kept ∙ a .active-kept; status-kept = b .status-kept ∙ a .status-kept }
 
 -- every processor below n answers
 pub record Asked (k : Bus.Kind) (n p w : ℕ) (S S′ : View) : Type 0 where
@@ -131,7 +134,8 @@ served : {S S′ : View} (k : Bus.Kind) (n p w : ℕ) → Far n p w S → Asked 
 served {S} {S′} k n p w f a = record { phase = a .phase; gives = go k (λ q l i. a .near q l i) }
   where
     go : (k : Bus.Kind) → ((q : ℕ) → q < n → q ≢ p → S′ .copy w q ≡ Bus.snoops k (S .copy w q)) → Gives k (S′ .copy w) p
-    go Bus.reading h = λ q i. elim (decLt q n) [ yes l ↦ rw (h q l i) (excl-shared (S .copy w q)) | no l ↦ rw (far-after f (a .phase) q (omega arith) i) ]
+    go Bus.reading h =
+        λ q i. elim (decLt q n) [ yes l ↦ rw (h q l i) (excl-shared (S .copy w q)) | no l ↦ rw (far-after f (a .phase) q (omega arith) i) ]
     go Bus.owning h = λ q i. elim (decLt q n) [ yes l ↦ h q l i ∙ taken-none (S .copy w q) | no l ↦ far-after f (a .phase) q (omega arith) i ]
 
 pub by-grant : {S S′ : View} (k : Bus.Kind) (n p w : ℕ) → Far n p w S → Bus.Granted k n p w S S′ → Served k n p w S S′
@@ -202,7 +206,8 @@ pub by-plain : {S S′ : View} (k : Bus.Kind) (n p w : ℕ) → Far n p w S → 
 by-plain k n p w f g =
     let a = cleared (Bus.refuses k) (refuses-roll k) n p w (g .rolls) in
     let f′ = far-after f (a .phase) in
-    let b = served k n p w f′ (asked k n p w (λ q i. elim (decLt q n) [ yes l ↦ a .near q l i | no l ↦ rw (f′ q (omega arith) i) (refuses-none k) ]) (g .asks)) in
+    let b = served k n p w f′
+    (asked k n p w (λ q i. elim (decLt q n) [ yes l ↦ a .near q l i | no l ↦ rw (f′ q (omega arith) i) (refuses-none k) ]) (g .asks)) in
     record { phase = phase-trans (a .phase) (b .phase); gives = b .gives }
 
 -- freeing a line or an entry
@@ -314,7 +319,8 @@ begun-run p w l (Bus.without at was here m) = record {
 }
 
 starts-run : {S S′ : View} (p w : ℕ) → Live S p → Bus.Starts p w S S′ → Live→ p w S S′
-starts-run p w l (Bus.not-normal h s) = record { runs = run-one (still s); lives = (s .active-same p ∙ l .0, s .status-same p ∙ l .1); others = λ q n. s .copy-same w q }
+starts-run p w l (Bus.not-normal h s) =
+    record { runs = run-one (still s); lives = (s .active-same p ∙ l .0, s .status-same p ∙ l .1); others = λ q n. s .copy-same w q }
 starts-run p w l (Bus.opens b) = begun-run p w l b
 
 opened-run : {S S′ : View} (p w : ℕ) → Bus.Opened p w S S′ → Live→ p w S S′
@@ -371,7 +377,8 @@ dead-bare {S} p A d w = go (isTentative (S .copy w p)) refl
     go true e = absurd (true≢false (sym (A .live w p e .1) ∙ d))
     go false e = refl
 
-held-up : {S S′ : View} (n p w : ℕ) {s : LineState} {x : ℕ} {b : Back} {t : Bool} → Bus.Held Bus.owning n p w S S′ → S′ .copy w p ≡ tentative s x b t → above s ≡ true
+held-up : {S S′ : View} (n p w : ℕ) {s : LineState} {x : ℕ} {b : Back} {t : Bool} → Bus.Held Bus.owning n p w S S′ → S′ .copy w p ≡ tentative s x b t
+    → above s ≡ true
 held-up n p w (Bus.has-it was en i) h = cc (i .copy-same w p)
 held-up n p w (Bus.raises was g at here m) h = cc
 held-up n p w (Bus.misses was fr fr′ g at bk here m) h = cc

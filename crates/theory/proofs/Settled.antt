@@ -166,14 +166,20 @@ by true f g = f refl
 by false f g = g refl
 
 pub coherent→agree : {S : View} (n : ℕ) → Coherent n S → ((w p : ℕ) → coarse (S .copy w p)) → Agree S (settled n S)
-coherent→agree {S} n C co = record { words = λ w. record { only = C .only w; holds = λ p. hold w p (S .copy w p) refl (C .order w p) (C .equal w p) (co w p); cell = λ h. sym (settled-mem n _ _ h) }; live = C .live }
+coherent→agree {S} n C co =
+    record {
+      words = λ w. record
+          { only = C .only w; holds = λ p. hold w p (S .copy w p) refl (C .order w p) (C .equal w p) (co w p); cell = λ h. sym (settled-mem n _ _ h) };
+      live = C .live;
+    }
   where
     inside : (w p : ℕ) → owns (S .copy w p) ≡ true → p < n
     inside w p h = elim (decLt p n) [ yes l ↦ l | no g ↦ absurd (true≢false (cc (C .within w p (omega arith)))) ]
 
     -- an owner's data is the settled value
     wetly : (w p : ℕ) {k : Copy} → S .copy w p ≡ k → owns k ≡ true → baseData k ≡ settled n S w
-    wetly w p e h = let h′ = rw (← e) at h in rw (← e) (sym (settled-own n (S .memory w) (S .copy w) p (inside w p h′) h′ (λ q. C .only w p q (owns-up (S .copy w p) (C .order w p) h′))))
+    wetly w p e h = let h′ = rw (← e) at h in rw (← e)
+        (sym (settled-own n (S .memory w) (S .copy w) p (inside w p h′) h′ (λ q. C .only w p q (owns-up (S .copy w p) (C .order w p) h′))))
 
     -- and without one the memory has it
     dryly : (w p : ℕ) {k : Copy} → S .copy w p ≡ k → has k ≡ true → owns k ≡ false → S .memory w ≡ settled n S w

@@ -38,7 +38,8 @@ main-back u w (slotTentative s v d t) h = refl
 
 -- what a processor that has nothing of a word, or a tentative entry with no backup, has in its slots
 module _ (E : ℕ) (home : ℕ → ℕ) (slot : ℕ → Slot) (line : ℕ → Line) where
-  has-none : (w : ℕ) (k : Copy) → Has E home slot line w k → k ≡ none → (regOn w (line (home w)) ≡ false) × ((i : ℕ) → i < E → mainOn w (slot i) ≡ false)
+  has-none : (w : ℕ) (k : Copy) → Has E home slot line w k → k ≡ none → (regOn w (line (home w)) ≡ false)
+      × ((i : ℕ) → i < E → mainOn w (slot i) ≡ false)
   has-none w k (in-line h e) n = absurd (go (line (home w)) h (e ∙ n))
     where
       go : (x : Line) → regOn w x ≡ true → regCopy x ≡ none → ⊥
@@ -58,12 +59,14 @@ module _ (E : ℕ) (home : ℕ → ℕ) (slot : ℕ → Slot) (line : ℕ → Li
 
   module _ (T : Tidy E home slot line) (i : ℕ) (l : i < E) where
     pub look-normal : {s : LineState} {u d : ℕ} → slot i ≡ slotNormal s u d → look E home slot line u ≡ normal s d
-    look-normal {s} {u} {d} e = looks E home slot line T u (normal s d) (in-slot {b = backOf E home slot line u} i l (T .apart u i l m) m (back-is E home slot line u) (rw e))
+    look-normal {s} {u} {d} e = looks E home slot line T u (normal s d)
+        (in-slot {b = backOf E home slot line u} i l (T .apart u i l m) m (back-is E home slot line u) (rw e))
       where
         m : mainOn u (slot i) ≡ true
         m = rw e (is-self u)
 
-    pub look-tentative : {s : LineState} {u d : ℕ} {t : Bool} {b : Back} → slot i ≡ slotTentative s u d t → Backs E home slot line u b → look E home slot line u ≡ tentative s d b t
+    pub look-tentative : {s : LineState} {u d : ℕ} {t : Bool} {b : Back} → slot i ≡ slotTentative s u d t → Backs E home slot line u b
+        → look E home slot line u ≡ tentative s d b t
     look-tentative {s} {u} {d} {t} {b} e bk = looks E home slot line T u (tentative s d b t) (in-slot {b = b} i l (T .apart u i l m) m bk (rw e))
       where
         m : mainOn u (slot i) ≡ true
@@ -94,21 +97,25 @@ module _ (E : ℕ) (home : ℕ → ℕ) (slot slot′ : ℕ → Slot) (line : �
   -- a NORMAL entry goes
   module _ {s : LineState} {u d : ℕ} (was : slot i ≡ slotNormal s u d) (here : slot′ i ≡ vacant) where
     pub tidy-out : Tidy E home slot′ line
-    tidy-out = tidy-one E home slot slot′ line T u i l (slotNormal s u d) vacant was here else refl tt (λ w h. absurd (false≢true h)) (λ w h. h) (λ w h. h)
+    tidy-out =
+        tidy-one E home slot slot′ line T u i l (slotNormal s u d) vacant was here else refl tt (λ w h. absurd (false≢true h)) (λ w h. h) (λ w h. h)
 
     pub look-out : look E home slot′ line u ≡ none
     look-out = looks E home slot′ line tidy-out u none (nowhere (T .apart u i l (rw was (is-self u))) off refl)
       where
         off : (j : ℕ) → j < E → mainOn u (slot′ j) ≡ false
-        off j l′ = elim (ℕ-discrete j i) [ yes e ↦ rw (e, here) | no n ↦ not-true _ (λ h. n (T .mains u j i l′ l (rw (else j n) at h) (rw was (is-self u)))) ]
+        off j l′ = elim (ℕ-discrete j i)
+            [ yes e ↦ rw (e, here) | no n ↦ not-true _ (λ h. n (T .mains u j i l′ l (rw (else j n) at h) (rw was (is-self u)))) ]
 
   -- a backup goes
   module _ {r : LineState} {u e : ℕ} (was : slot i ≡ slotBackup r u e) (here : slot′ i ≡ vacant) where
     pub tidy-backout : Tidy E home slot′ line
-    tidy-backout = tidy-one E home slot slot′ line T u i l (slotBackup r u e) vacant was here else refl tt (λ w h. h) (λ w h. absurd (false≢true h)) (λ w h. absurd (false≢true h))
+    tidy-backout = tidy-one E home slot slot′ line T u i l (slotBackup r u e) vacant was here else refl tt (λ w h. h) (λ w h. absurd (false≢true h))
+        (λ w h. absurd (false≢true h))
 
     -- its tentative entry, before and after
-    pub look-backout : (s : LineState) × (d : ℕ) × (t : Bool) × (look E home slot line u ≡ tentative s d (backup r e) t) × (look E home slot′ line u ≡ tentative s d bare t)
+    pub look-backout : (s : LineState) × (d : ℕ) × (t : Bool) × (look E home slot line u ≡ tentative s d (backup r e) t)
+        × (look E home slot′ line u ≡ tentative s d bare t)
     look-backout = go (slot i′) refl (p .2)
       where
         p : (j : ℕ) × (j < E) × (tentOn u (slot j) ≡ true)
@@ -118,10 +125,12 @@ module _ (E : ℕ) (home : ℕ → ℕ) (slot slot′ : ℕ → Slot) (line : �
         i′ = p .0
 
         off : (j : ℕ) → j < E → backOn u (slot′ j) ≡ false
-        off j l′ = elim (ℕ-discrete j i) [ yes z ↦ rw (z, here) | no n ↦ not-true _ (λ h. n (T .backs u j i l′ l (rw (else j n) at h) (rw was (is-self u)))) ]
+        off j l′ = elim (ℕ-discrete j i)
+            [ yes z ↦ rw (z, here) | no n ↦ not-true _ (λ h. n (T .backs u j i l′ l (rw (else j n) at h) (rw was (is-self u)))) ]
 
         go : (x : Slot) → slot i′ ≡ x → tentOn u x ≡ true
-            → (s : LineState) × (d : ℕ) × (t : Bool) × (look E home slot line u ≡ tentative s d (backup r e) t) × (look E home slot′ line u ≡ tentative s d bare t)
+            → (s : LineState) × (d : ℕ) × (t : Bool) × (look E home slot line u ≡ tentative s d (backup r e) t)
+            × (look E home slot′ line u ≡ tentative s d bare t)
         go vacant z h = absurd (false≢true h)
         go (slotNormal s v d) z h = absurd (false≢true h)
         go (slotBackup s v d) z h = absurd (false≢true h)
@@ -148,7 +157,8 @@ module _ (E : ℕ) (home : ℕ → ℕ) (slot slot′ : ℕ → Slot) (line : �
     turn-back b (backed j l′ h e) =
         let n : j ≢ i = λ q. true≢false (sym h ∙ rw (q, was) (main-back u u x mx)) in
         backed {b = b} j l′ (rw (else j n) h) (rw (else j n) e)
-    turn-back b (unbacked g e) = unbacked (λ j l′. elim (ℕ-discrete j i) [ yes q ↦ rw (q, here) (main-back u u y my) | no n ↦ rw (else j n) (g j l′) ]) e
+    turn-back b (unbacked g e) =
+        unbacked (λ j l′. elim (ℕ-discrete j i) [ yes q ↦ rw (q, here) (main-back u u y my) | no n ↦ rw (else j n) (g j l′) ]) e
 
     pub look-turn : (b : Back) → Backs E home slot line u b → (look E home slot line u ≡ slotCopy x b) × (look E home slot′ line u ≡ slotCopy y b)
     look-turn b bk = (
@@ -157,7 +167,8 @@ module _ (E : ℕ) (home : ℕ → ℕ) (slot slot′ : ℕ → Slot) (line : �
     )
 
   -- a free slot takes a tentative entry of a word that the processor has not
-  module _ {s : LineState} {u d : ℕ} {t : Bool} (was : slot i ≡ vacant) (here : slot′ i ≡ slotTentative s u d t) (free : look E home slot line u ≡ none) where
+  module _ {s : LineState} {u d : ℕ} {t : Bool} (was : slot i ≡ vacant) (here : slot′ i ≡ slotTentative s u d t)
+      (free : look E home slot line u ≡ none) where
     no-main : (j : ℕ) → j < E → mainOn u (slot j) ≡ false
     no-main = look-none E home slot line u free .1
 
@@ -169,7 +180,8 @@ module _ (E : ℕ) (home : ℕ → ℕ) (slot slot′ : ℕ → Slot) (line : �
       where
         -- the claims of slot′, by slot
         main-in : (w j : ℕ) → mainOn w (slot′ j) ≡ true → ((j ≡ i) × (w ≡ u)) ⊎ ((j ≢ i) × (mainOn w (slot j) ≡ true))
-        main-in w j h = elim (ℕ-discrete j i) [ yes e ↦ inl (e, main-word u (slotTentative s u d t) refl w (rw (e, here) at h)) | no n ↦ inr (n, rw (else j n) at h) ]
+        main-in w j h = elim (ℕ-discrete j i)
+            [ yes e ↦ inl (e, main-word u (slotTentative s u d t) refl w (rw (e, here) at h)) | no n ↦ inr (n, rw (else j n) at h) ]
 
         back-in : (w j : ℕ) → backOn w (slot′ j) ≡ true → backOn w (slot j) ≡ true
         back-in w j h = elim (ℕ-discrete j i) [ yes e ↦ absurd (false≢true (rw (e, here) at h)) | no n ↦ rw (else j n) at h ]
@@ -177,7 +189,8 @@ module _ (E : ℕ) (home : ℕ → ℕ) (slot slot′ : ℕ → Slot) (line : �
         ms : (w j j′ : ℕ) → j < E → j′ < E → mainOn w (slot′ j) ≡ true → mainOn w (slot′ j′) ≡ true → j ≡ j′
         ms w j j′ l₁ l₂ h h′ = go (main-in w j h) (main-in w j′ h′)
           where
-            go : ((j ≡ i) × (w ≡ u)) ⊎ ((j ≢ i) × (mainOn w (slot j) ≡ true)) → ((j′ ≡ i) × (w ≡ u)) ⊎ ((j′ ≢ i) × (mainOn w (slot j′) ≡ true)) → j ≡ j′
+            go : ((j ≡ i) × (w ≡ u)) ⊎ ((j ≢ i) × (mainOn w (slot j) ≡ true)) → ((j′ ≡ i) × (w ≡ u)) ⊎ ((j′ ≢ i) × (mainOn w (slot j′) ≡ true))
+                → j ≡ j′
             go (inl a) (inl b) = a .0 ∙ sym (b .0)
             go (inl a) (inr b) = absurd (true≢false (sym (b .1) ∙ rw (a .1) (no-main j′ l₂)))
             go (inr a) (inl b) = absurd (true≢false (sym (a .1) ∙ rw (b .1) (no-main j l₁)))
@@ -219,12 +232,14 @@ module _ (E : ℕ) (home : ℕ → ℕ) (slot slot′ : ℕ → Slot) (line : �
         main-in w j h = elim (ℕ-discrete j i) [ yes q ↦ absurd (false≢true (rw (q, here) at h)) | no n ↦ rw (else j n) at h ]
 
         back-in : (w j : ℕ) → backOn w (slot′ j) ≡ true → ((j ≡ i) × (w ≡ u)) ⊎ ((j ≢ i) × (backOn w (slot j) ≡ true))
-        back-in w j h = elim (ℕ-discrete j i) [ yes q ↦ inl (q, back-word u (slotBackup r u e) refl w (rw (q, here) at h)) | no n ↦ inr (n, rw (else j n) at h) ]
+        back-in w j h =
+            elim (ℕ-discrete j i) [ yes q ↦ inl (q, back-word u (slotBackup r u e) refl w (rw (q, here) at h)) | no n ↦ inr (n, rw (else j n) at h) ]
 
         bs : (w j j′ : ℕ) → j < E → j′ < E → backOn w (slot′ j) ≡ true → backOn w (slot′ j′) ≡ true → j ≡ j′
         bs w j j′ l₁ l₂ h h′ = go (back-in w j h) (back-in w j′ h′)
           where
-            go : ((j ≡ i) × (w ≡ u)) ⊎ ((j ≢ i) × (backOn w (slot j) ≡ true)) → ((j′ ≡ i) × (w ≡ u)) ⊎ ((j′ ≢ i) × (backOn w (slot j′) ≡ true)) → j ≡ j′
+            go : ((j ≡ i) × (w ≡ u)) ⊎ ((j ≢ i) × (backOn w (slot j) ≡ true)) → ((j′ ≡ i) × (w ≡ u)) ⊎ ((j′ ≢ i) × (backOn w (slot j′) ≡ true))
+                → j ≡ j′
             go (inl a) (inl b) = a .0 ∙ sym (b .0)
             go (inl a) (inr b) = absurd (true≢false (sym (b .1) ∙ rw (a .1) (alone j′ l₂)))
             go (inr a) (inl b) = absurd (true≢false (sym (a .1) ∙ rw (b .1) (alone j l₁)))
@@ -244,11 +259,13 @@ module _ (E : ℕ) (home : ℕ → ℕ) (slot slot′ : ℕ → Slot) (line : �
     look-back = look-tentative E home slot′ line tidy-back i′ l′ (else i′ apart′ ∙ main) (backed i l (rw here (is-self u)) (rw here))
 
 -- what is seen is in a slot
-pub look-tent : (E : ℕ) (home : ℕ → ℕ) (slot : ℕ → Slot) (line : ℕ → Line) (w : ℕ) {s : LineState} {d : ℕ} {b : Back} {t : Bool} → look E home slot line w ≡ tentative s d b t
+pub look-tent : (E : ℕ) (home : ℕ → ℕ) (slot : ℕ → Slot) (line : ℕ → Line) (w : ℕ) {s : LineState} {d : ℕ} {b : Back} {t : Bool}
+    → look E home slot line w ≡ tentative s d b t
     → (i : ℕ) × (i < E) × (slot i ≡ slotTentative s w d t) × Backs E home slot line w b
 look-tent E home slot line w {s} {d} {b} {t} e = go (look E home slot line w) (look-is E home slot line w) e
   where
-    go : (k : Copy) → Has E home slot line w k → k ≡ tentative s d b t → (i : ℕ) × (i < E) × (slot i ≡ slotTentative s w d t) × Backs E home slot line w b
+    go : (k : Copy) → Has E home slot line w k → k ≡ tentative s d b t → (i : ℕ) × (i < E) × (slot i ≡ slotTentative s w d t)
+        × Backs E home slot line w b
     go k (in-line h y) e = absurd (one (line (home w)) (y ∙ e))
       where
         one : (x : Line) → regCopy x ≡ tentative s d b t → ⊥
@@ -256,7 +273,8 @@ look-tent E home slot line w {s} {d} {b} {t} e = go (look E home slot line w) (l
         one (filled s′ u d′) y = let z : true ≡ false = cc in true≢false z
     go k (in-slot {b = b′} i l r m bk y) e = one (slot i) refl m (y ∙ e)
       where
-        one : (x : Slot) → slot i ≡ x → mainOn w x ≡ true → slotCopy x b′ ≡ tentative s d b t → (i : ℕ) × (i < E) × (slot i ≡ slotTentative s w d t) × Backs E home slot line w b
+        one : (x : Slot) → slot i ≡ x → mainOn w x ≡ true → slotCopy x b′ ≡ tentative s d b t → (i : ℕ) × (i < E) × (slot i ≡ slotTentative s w d t)
+            × Backs E home slot line w b
         one vacant z m y = absurd (false≢true m)
         one (slotNormal s′ u d′) z m y = let q : true ≡ false = cc in absurd (true≢false q)
         one (slotBackup s′ u d′) z m y = absurd (false≢true m)
@@ -284,7 +302,8 @@ look-norm E home slot line w {s} {d} e = go (look E home slot line w) (look-is E
         one (slotTentative s′ u d′ t′) z m y = let q : true ≡ false = cc in absurd (true≢false q)
     go k (nowhere r g y) e = let z : true ≡ false = cc in absurd (true≢false z)
 
-pub look-reg : (E : ℕ) (home : ℕ → ℕ) (slot : ℕ → Slot) (line : ℕ → Line) (w : ℕ) {s : LineState} {d : ℕ} → look E home slot line w ≡ regular s d → regOn w (line (home w)) ≡ true
+pub look-reg : (E : ℕ) (home : ℕ → ℕ) (slot : ℕ → Slot) (line : ℕ → Line) (w : ℕ) {s : LineState} {d : ℕ} → look E home slot line w ≡ regular s d
+    → regOn w (line (home w)) ≡ true
 look-reg E home slot line w {s} {d} e = go (look E home slot line w) (look-is E home slot line w) e
   where
     go : (k : Copy) → Has E home slot line w k → k ≡ regular s d → regOn w (line (home w)) ≡ true
@@ -299,5 +318,7 @@ look-reg E home slot line w {s} {d} e = go (look E home slot line w) (look-is E 
     go k (nowhere r g y) e = let z : true ≡ false = cc in absurd (true≢false z)
 
 -- a processor that has nothing of a word has no backup of it
-pub none-backs : (E : ℕ) (home : ℕ → ℕ) (slot : ℕ → Slot) (line : ℕ → Line) → Tidy E home slot line → (w : ℕ) → look E home slot line w ≡ none → (j : ℕ) → j < E → backOn w (slot j) ≡ false
-none-backs E home slot line T w e j l = not-true _ (λ h. let x = T .paired w j l h in true≢false (sym (main-tent w (slot (x .0)) (x .2)) ∙ look-none E home slot line w e .1 (x .0) (x .1)))
+pub none-backs : (E : ℕ) (home : ℕ → ℕ) (slot : ℕ → Slot) (line : ℕ → Line) → Tidy E home slot line → (w : ℕ) → look E home slot line w ≡ none
+    → (j : ℕ) → j < E → backOn w (slot j) ≡ false
+none-backs E home slot line T w e j l = not-true _
+    (λ h. let x = T .paired w j l h in true≢false (sym (main-tent w (slot (x .0)) (x .2)) ∙ look-none E home slot line w e .1 (x .0) (x .1)))

@@ -41,7 +41,8 @@ module _ (E : ℕ) (home : ℕ → ℕ) where
             (λ w h. rw (L .lines q (home w) n) h)
 
     pub look-local : AllTidy S′ → (w q : ℕ) → q ≢ p → view S′ .copy w q ≡ view S .copy w q
-    look-local T′ w q n = look-calm E home (S .slot q) (S′ .slot q) (S .line q) (S′ .line q) w (inl (L .lines q (home w) n)) (λ i l. inl (L .slots q i n l)) (T′ q)
+    look-local T′ w q n =
+        look-calm E home (S .slot q) (S′ .slot q) (S .line q) (S′ .line q) w (inl (L .lines q (home w) n)) (λ i l. inl (L .slots q i n l)) (T′ q)
 
     -- a change of p's cache as far as word w goes
     pub at-local : AllTidy S′ → (w : ℕ)
@@ -74,7 +75,8 @@ module _ (E : ℕ) (home : ℕ → ℕ) where
 
     pub at-slot : AllTidy S′ → {x : Slot} → S .slot p i ≡ x → wordIs w x → wordIs w y → At p w (view S) (view S′)
     at-slot T′ {x} was xw yw = at-local T (slot-local c) T′ w (c .mems)
-        (λ u n. rw same-lines (look-else E home (S .slot p) (S′ .slot p) (S .line p) (T p) w i l x y was (c .here) (c .else) xw yw (rw same-lines at (T′ p)) u n))
+        (λ u n. rw same-lines
+        (look-else E home (S .slot p) (S′ .slot p) (S .line p) (T p) w i l x y was (c .here) (c .else) xw yw (rw same-lines at (T′ p)) u n))
         (c .acts) (c .stas)
 
     -- a slot is set to what it was
@@ -83,7 +85,12 @@ module _ (E : ℕ) (home : ℕ → ℕ) where
       T′,
       record {
         memory-same = λ u. elim (ℕ-discrete u w) [ yes e ↦ rw e m | no n ↦ c .mems u n ];
-        copy-same = λ u q. elim (ℕ-discrete q p) [ yes e ↦ rw e (look-calm E home (S .slot p) (S′ .slot p) (S .line p) (S′ .line p) u (inl (c .lines p (home u))) (λ j h. inl (all j)) (T′ p)) | no n ↦ look-local T (slot-local c) T′ u q n ];
+        copy-same = λ u q. elim (ℕ-discrete q p) [
+          | yes e ↦ rw e
+              (look-calm E home (S .slot p) (S′ .slot p) (S .line p) (S′ .line p) u (inl (c .lines p (home u))) (λ j h. inl (all j)) (T′ p))
+          | no
+              n ↦ look-local T (slot-local c) T′ u q n
+        ];
         active-same = c .acts;
         status-same = c .stas;
       },
@@ -129,10 +136,12 @@ module _ (E : ℕ) (home : ℕ → ℕ) where
         (T′, Bus.back-out u (rw ew at (at-slot T′ was (sym ew) (rw ey tt))) (b .3) (rw same-lines (b .4)) m)
       where
         T′ : AllTidy S′
-        T′ = tidy-local T (slot-local c) (rw same-lines (tidy-backout E home (S .slot p) (S′ .slot p) (S .line p) (T p) i l (c .else) was (c .here ∙ ey)))
+        T′ = tidy-local T (slot-local c)
+            (rw same-lines (tidy-backout E home (S .slot p) (S′ .slot p) (S .line p) (T p) i l (c .else) was (c .here ∙ ey)))
 
     -- w's own entry changes and stays w's own
-    pub turned : {x : Slot} → S .slot p i ≡ x → wordIs w x → wordIs w y → mainOn w x ≡ true → mainOn w y ≡ true → (tentOn w x ≡ true → tentOn w y ≡ true)
+    pub turned : {x : Slot} → S .slot p i ≡ x → wordIs w x → wordIs w y → mainOn w x ≡ true → mainOn w y ≡ true
+        → (tentOn w x ≡ true → tentOn w y ≡ true)
         → (b : Back) → Backs E home (S .slot p) (S .line p) w b
         → AllTidy S′ × At p w (view S) (view S′) × (view S .copy w p ≡ slotCopy x b) × (view S′ .copy w p ≡ slotCopy y b)
     turned {x} was xw yw mx my tk b bk =
@@ -140,24 +149,38 @@ module _ (E : ℕ) (home : ℕ → ℕ) where
         (T′, at-slot T′ was xw yw, k .0, rw same-lines (k .1))
       where
         T′ : AllTidy S′
-        T′ = tidy-local T (slot-local c) (rw same-lines (tidy-turn E home (S .slot p) (S′ .slot p) (S .line p) (T p) i l (c .else) w was (c .here) xw yw mx my tk))
+        T′ = tidy-local T (slot-local c)
+            (rw same-lines (tidy-turn E home (S .slot p) (S′ .slot p) (S .line p) (T p) i l (c .else) w was (c .here) xw yw mx my tk))
 
     -- a free slot takes a tentative entry
     pub entered : {s : LineState} {d : ℕ} {t : Bool} → S .slot p i ≡ vacant → y ≡ slotTentative s w d t → view S .copy w p ≡ none
         → AllTidy S′ × At p w (view S) (view S′) × (view S′ .copy w p ≡ tentative s d bare t)
-    entered was ey free = (T′, at-slot T′ was tt (rw ey refl), rw same-lines (look-in E home (S .slot p) (S′ .slot p) (S .line p) (T p) i l (c .else) was (c .here ∙ ey) free))
+    entered was ey free = (
+      T′,
+      at-slot T′ was tt (rw ey refl),
+      rw same-lines
+          (look-in E home (S .slot p) (S′ .slot p) (S .line p) (T p) i l (c .else) was (c .here ∙ ey) free),
+    )
       where
         T′ : AllTidy S′
-        T′ = tidy-local T (slot-local c) (rw same-lines (tidy-in E home (S .slot p) (S′ .slot p) (S .line p) (T p) i l (c .else) was (c .here ∙ ey) free))
+        T′ = tidy-local T (slot-local c)
+            (rw same-lines (tidy-in E home (S .slot p) (S′ .slot p) (S .line p) (T p) i l (c .else) was (c .here ∙ ey) free))
 
     -- a free slot takes a backup
-    pub backs-up : {r s : LineState} {e d : ℕ} {t : Bool} → S .slot p i ≡ vacant → y ≡ slotBackup r w e → (i′ : ℕ) → i′ < E → S .slot p i′ ≡ slotTentative s w d t
+    pub backs-up : {r s : LineState} {e d : ℕ} {t : Bool} → S .slot p i ≡ vacant → y ≡ slotBackup r w e → (i′ : ℕ) → i′ < E
+        → S .slot p i′ ≡ slotTentative s w d t
         → ((j : ℕ) → j < E → backOn w (S .slot p j) ≡ false)
         → AllTidy S′ × At p w (view S) (view S′) × (view S′ .copy w p ≡ tentative s d (backup r e) t)
-    backs-up was ey i′ l′ main al = (T′, at-slot T′ was tt (rw ey refl), rw same-lines (look-back E home (S .slot p) (S′ .slot p) (S .line p) (T p) i l (c .else) was (c .here ∙ ey) i′ l′ main al))
+    backs-up was ey i′ l′ main al = (
+      T′,
+      at-slot T′ was tt (rw ey refl),
+      rw same-lines
+          (look-back E home (S .slot p) (S′ .slot p) (S .line p) (T p) i l (c .else) was (c .here ∙ ey) i′ l′ main al),
+    )
       where
         T′ : AllTidy S′
-        T′ = tidy-local T (slot-local c) (rw same-lines (tidy-back E home (S .slot p) (S′ .slot p) (S .line p) (T p) i l (c .else) was (c .here ∙ ey) i′ l′ main al))
+        T′ = tidy-local T (slot-local c)
+            (rw same-lines (tidy-back E home (S .slot p) (S′ .slot p) (S .line p) (T p) i l (c .else) was (c .here ∙ ey) i′ l′ main al))
 
   -- every slot of p by f, and p's flags
   pub record SlotMap (f : Slot → Slot) (p : ℕ) (S S′ : State) : Type 0 where
@@ -173,28 +196,43 @@ module _ (E : ℕ) (home : ℕ → ℕ) where
 
   map-cache : {f : Slot → Slot} (g : Copy → Copy) {p : ℕ} {S S′ : State} → AllTidy S → AllTidy S′ → SlotMap f p S S′
       → ((w : ℕ) → view S′ .copy w p ≡ g (view S .copy w p)) → OnlyProcessor g p (view S) (view S′)
-  map-cache g T T′ c h = record { memory-same = c .mems; here = h; else = λ u q n. look-local T (map-local c) T′ u q n; active-else = c .acts; status-else = c .stas }
+  map-cache g T T′ c h =
+      record { memory-same = c .mems; here = h; else = λ u q n. look-local T (map-local c) T′ u q n; active-else = c .acts; status-else = c .stas }
 
   pub rolled-back : {S S′ : State} (p : ℕ) → AllTidy S → SlotMap slotRollback p S S′ → S′ .active p ≡ S .active p → S′ .status p ≡ false
       → AllTidy S′ × Bus.RolledBack p (view S) (view S′)
-  rolled-back {S} {S′} p T c a s = (T′, record { cache = map-cache rolledBack T T′ c (look-roll E home (S .slot p) (S′ .slot p) (S .line p) (S′ .line p) (T p) (λ h. c .lines p h) (c .here)); status = s; active = a })
+  rolled-back {S} {S′} p T c a s = (
+    T′,
+    record {
+      cache = map-cache rolledBack T T′ c
+          (look-roll E home (S .slot p) (S′ .slot p) (S .line p) (S′ .line p) (T p) (λ h. c .lines p h) (c .here));
+      status = s;
+      active = a;
+    },
+  )
     where
       T′ : AllTidy S′
       T′ = tidy-local T (map-local c) (tidy-roll E home (S .slot p) (S′ .slot p) (S .line p) (S′ .line p) (T p) (λ h. c .lines p h) (c .here))
 
   pub slots-committed : {S S′ : State} (p : ℕ) → AllTidy S → SlotMap slotCommit p S S′ → AllTidy S′ × OnlyProcessor committed p (view S) (view S′)
-  slots-committed {S} {S′} p T c = (T′, map-cache committed T T′ c (look-settle E home (S .slot p) (S′ .slot p) (S .line p) (S′ .line p) (T p) (λ h. c .lines p h) (c .here)))
+  slots-committed {S} {S′} p T c =
+      (T′, map-cache committed T T′ c (look-settle E home (S .slot p) (S′ .slot p) (S .line p) (S′ .line p) (T p) (λ h. c .lines p h) (c .here)))
     where
       T′ : AllTidy S′
       T′ = tidy-local T (map-local c) (tidy-settle E home (S .slot p) (S′ .slot p) (S .line p) (S′ .line p) (T p) (λ h. c .lines p h) (c .here))
 
   -- only p's flags
   pub flagged : {S S′ : State} (p : ℕ) → AllTidy S → SlotMap (λ x. x) p S S′ → AllTidy S′ × OnlyProcessor same p (view S) (view S′)
-  flagged {S} {S′} p T c = (T′, map-cache same T T′ c (λ w. look-calm E home (S .slot p) (S′ .slot p) (S .line p) (S′ .line p) w (inl (c .lines p (home w))) (λ i l. inl (c .here i l)) (T′ p)))
+  flagged {S} {S′} p T c = (
+    T′,
+    map-cache same T T′ c
+        (λ w. look-calm E home (S .slot p) (S′ .slot p) (S .line p) (S′ .line p) w (inl (c .lines p (home w))) (λ i l. inl (c .here i l)) (T′ p)),
+  )
     where
       T′ : AllTidy S′
       T′ = tidy-local T (map-local c) (tidy-shrink E home (S .slot p) (S′ .slot p) (S .line p) (S′ .line p) (T p)
-          (λ i w l h. rw (c .here i l) at h) (λ i w l h. rw (c .here i l) at h) (λ i j w l l′ h t. rw (c .here i l) t) (λ w h. rw (c .lines p (home w)) h))
+          (λ i w l h. rw (c .here i l) at h) (λ i w l h. rw (c .here i l) at h) (λ i j w l l′ h t. rw (c .here i l) t)
+          (λ w h. rw (c .lines p (home w)) h))
 
   -- line h of p becomes y, and w's memory may change
   pub record LineSet (p h : ℕ) (y : Line) (w : ℕ) (S S′ : State) : Type 0 where
@@ -219,14 +257,18 @@ module _ (E : ℕ) (home : ℕ → ℕ) where
     lined {x} was xw yw o = (
       T′,
       at-local T line-local T′ w (c .mems)
-          (λ u n. rw same-slots (line-else E home (S .slot p) (S .line p) (S′ .line p) (T p) w h home-w (c .else) was (c .here) xw yw o u n)) (c .acts) (c .stas),
+          (λ u n. rw same-slots (line-else E home (S .slot p) (S .line p) (S′ .line p) (T p) w h home-w (c .else) was (c .here) xw yw o u n))
+          (c .acts) (c .stas),
     )
       where
         T′ : AllTidy S′
-        T′ = tidy-local T line-local (rw same-slots (tidy-line E home (S .slot p) (S .line p) (S′ .line p) (T p) w h home-w (c .else) was (c .here) xw yw o))
+        T′ = tidy-local T line-local
+            (rw same-slots (tidy-line E home (S .slot p) (S .line p) (S′ .line p) (T p) w h home-w (c .else) was (c .here) xw yw o))
 
-    pub line-out : {x : Line} → S .line p h ≡ x → lineIs w x → y ≡ blank → ((i : ℕ) → i < E → mainOn w (S .slot p i) ≡ false) → view S′ .copy w p ≡ none
+    pub line-out : {x : Line} → S .line p h ≡ x → lineIs w x → y ≡ blank → ((i : ℕ) → i < E → mainOn w (S .slot p i) ≡ false)
+        → view S′ .copy w p ≡ none
     line-out was xw ey o = rw same-slots (look-blank E home (S .slot p) (S .line p) (S′ .line p) (T p) w h home-w (c .else) o was xw (c .here ∙ ey))
 
-    pub line-in : {x : Line} {s : LineState} {d : ℕ} → S .line p h ≡ x → lineIs w x → y ≡ filled s w d → ((i : ℕ) → i < E → mainOn w (S .slot p i) ≡ false) → view S′ .copy w p ≡ regular s d
+    pub line-in : {x : Line} {s : LineState} {d : ℕ} → S .line p h ≡ x → lineIs w x → y ≡ filled s w d
+        → ((i : ℕ) → i < E → mainOn w (S .slot p i) ≡ false) → view S′ .copy w p ≡ regular s d
     line-in was xw ey o = rw same-slots (look-filled E home (S .slot p) (S .line p) (S′ .line p) (T p) w h home-w (c .else) o was xw (c .here ∙ ey))

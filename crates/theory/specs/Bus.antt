@@ -11,9 +11,12 @@ use Rattle.theory.specs.Change.{At, OnlyProcessor, same, Same}
 -- a line or an entry of p is freed: it was empty, or what it held is written back if DIRTY
 pub data Freed (p : ℕ) (S S′ : View) : Type 0 where
   empty : Same S S′ → Freed p S S′
-  reg-out : (u : ℕ) {s : LineState} {d : ℕ} → At p u S S′ → S .copy u p ≡ regular s d → S′ .copy u p ≡ none → S′ .memory u ≡ wrote s d (S .memory u) → Freed p S S′
-  norm-out : (u : ℕ) {s : LineState} {d : ℕ} → At p u S S′ → S .copy u p ≡ normal s d → S′ .copy u p ≡ none → S′ .memory u ≡ wrote s d (S .memory u) → Freed p S S′
-  back-out : (u : ℕ) {s r : LineState} {d e : ℕ} {t : Bool} → At p u S S′ → S .copy u p ≡ tentative s d (backup r e) t → S′ .copy u p ≡ tentative s d bare t
+  reg-out : (u : ℕ) {s : LineState} {d : ℕ} → At p u S S′ → S .copy u p ≡ regular s d → S′ .copy u p ≡ none → S′ .memory u ≡ wrote s d (S .memory u)
+      → Freed p S S′
+  norm-out : (u : ℕ) {s : LineState} {d : ℕ} → At p u S S′ → S .copy u p ≡ normal s d → S′ .copy u p ≡ none → S′ .memory u ≡ wrote s d (S .memory u)
+      → Freed p S S′
+  back-out : (u : ℕ) {s r : LineState} {d e : ℕ} {t : Bool} → At p u S S′ → S .copy u p ≡ tentative s d (backup r e) t
+      → S′ .copy u p ≡ tentative s d bare t
       → S′ .memory u ≡ wrote r e (S .memory u) → Freed p S S′
 
 -- rollback of p
@@ -127,7 +130,8 @@ isRegular (tentative s d b t) = false
 
 pub data Unnormal (p w : ℕ) (S S′ : View) : Type 0 where
   un-norm : isNormal (S .copy w p) ≡ false → Same S S′ → Unnormal p w S S′
-  re-norm : {s : LineState} {d : ℕ} → At p w S S′ → S .copy w p ≡ normal s d → S′ .copy w p ≡ none → S′ .memory w ≡ wrote s d (S .memory w) → Unnormal p w S S′
+  re-norm : {s : LineState} {d : ℕ} → At p w S S′ → S .copy w p ≡ normal s d → S′ .copy w p ≡ none → S′ .memory w ≡ wrote s d (S .memory w)
+      → Unnormal p w S S′
 
 -- LT, LTX, ST first make p active, and then give up its regular copy
 pub record Woken (p : ℕ) (S S′ : View) : Type 0 where
@@ -137,7 +141,8 @@ pub record Woken (p : ℕ) (S S′ : View) : Type 0 where
 
 pub data Unregular (p w : ℕ) (S S′ : View) : Type 0 where
   un-reg : isRegular (S .copy w p) ≡ false → Same S S′ → Unregular p w S S′
-  re-reg : {s : LineState} {d : ℕ} → At p w S S′ → S .copy w p ≡ regular s d → S′ .copy w p ≡ none → S′ .memory w ≡ wrote s d (S .memory w) → Unregular p w S S′
+  re-reg : {s : LineState} {d : ℕ} → At p w S S′ → S .copy w p ≡ regular s d → S′ .copy w p ≡ none → S′ .memory w ≡ wrote s d (S .memory w)
+      → Unregular p w S S′
 
 -- p's NORMAL copy becomes tentative, with a backup or without
 pub data Begun (p w : ℕ) (S S′ : View) : Type 0 where
