@@ -22,7 +22,8 @@ use Rattle.theory.specs.Event.{Event}
 use Rattle.theory.specs.View.{View}
 use Rattle.theory.specs.View
 use Rattle.theory.specs.Change.{OnlyProcessor, same}
-use Rattle.theory.proofs.Cache.{Slot, vacant, slotRollback, slotCommit}
+use Rattle.theory.proofs.Cache.{Slot, vacant}
+use Rattle.theory.proofs.AllSlots.{slotRollback, slotCommit}
 use Rattle.theory.proofs.Updates.{AllTidy, SlotMap, rolled-back, slots-committed, flagged}
 use Rattle.theory.specs.Bus.{RolledBack, Woken, Ended, Step, commit-yes, over, aborts, validate-yes, interrupts}
 use Rattle.theory.proofs.Refine.{same-refl}

@@ -15,7 +15,8 @@ use Rattle.machine.specs.State.{Caches, lineAt, entryAt}
 use Rattle.machine.specs.Own.{home, holds, hasEntry, findEntry}
 use Rattle.theory.specs.View.{Back, Copy, none, regular, normal, tentative, isTentative}
 use Rattle.theory.proofs.Cache.{vacant, slotNormal, slotTentative, blank, filled, regOn, is-self, is-true, looks, in-line, back-is, backOf}
-use Rattle.theory.proofs.Slots.{look-normal, look-tentative, look-norm, look-tent, look-reg}
+use Rattle.theory.proofs.Slots.{look-normal, look-tentative}
+use Rattle.theory.proofs.Looks.{look-norm, look-tent, look-reg}
 use Rattle.theory.specs.Bus.{isNormal, isRegular}
 use Rattle.serial.proofs.Decode.{stateOf, slotOf, lineOf, decoded, seen, read-at}
 use Rattle.serial.proofs.Frame.{LineFits, EntryFits, Fits, Size}

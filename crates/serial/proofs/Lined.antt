@@ -24,7 +24,8 @@ use Rattle.theory.proofs.Slots.{look-none}
 use Rattle.theory.proofs.Lines.{lineIs, line-main, look-line}
 use Rattle.theory.proofs.Updates.{AllTidy, LineSet, lined, line-in, line-out}
 use Rattle.theory.specs.Bus.{Freed, empty, reg-out, Unregular, un-reg, re-reg, isRegular}
-use Rattle.theory.proofs.Refine.{at-still, same-refl}
+use Rattle.theory.proofs.Serve.{at-still}
+use Rattle.theory.proofs.Refine.{same-refl}
 use Rattle.serial.proofs.Decode.{stateOf, slotOf, lineOf, decoded, seen, read-same}
 use Rattle.serial.proofs.Frame.{LineFits, Fits, Size, line-word}
 use Rattle.serial.proofs.Set.{Fit, lineOn, Memory, back-at, back-here, set-line, line-fit}

@@ -25,7 +25,7 @@ use Rattle.theory.specs.View.{Back, bare, backup, none, tentative, View}
 use Rattle.theory.specs.Change.{At}
 use Rattle.theory.proofs.Moves.{at-trans}
 use Rattle.theory.proofs.Cache.{slotBackup, slotTentative, backOn}
-use Rattle.theory.proofs.Slots.{none-backs}
+use Rattle.theory.proofs.Looks.{none-backs}
 use Rattle.theory.proofs.Updates.{AllTidy, SlotSet, entered, backs-up}
 use Rattle.theory.specs.Bus.{Kind, reading, owning, granted, Opened, misses, no-room, no-grant, Freed, empty}
 use Rattle.theory.proofs.Refine.{same-refl, freed-none}

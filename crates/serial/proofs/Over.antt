@@ -18,7 +18,7 @@ use Rattle.entry.specs.Entry.{rolledBack, committed}
 use Rattle.machine.specs.declared.Dims.{Dims}
 use Rattle.machine.specs.State.{place, copyAt}
 use Rattle.machine.specs.Rollback.{repacked, overEntries}
-use Rattle.theory.proofs.Cache.{slotRollback, slotCommit}
+use Rattle.theory.proofs.AllSlots.{slotRollback, slotCommit}
 use Rattle.serial.proofs.Decode.{slotBy, slotOf}
 use Rattle.serial.proofs.Frame.{EntryFits, Fits, Copies}
 

@@ -19,10 +19,11 @@ use Rattle.machine.specs.Own.{home, holds, hasLive, liveEntry}
 use Rattle.machine.specs.Bus.{writtenBack, snoopLine, snoopEntry, snoopOne, snoop, refuses, rollOthers, plainRequest}
 use Rattle.theory.specs.View.{Copy, none, regular, normal, tentative}
 use Rattle.theory.proofs.Cache.{vacant, blank, mainOn, is-self, nowhere, looks}
-use Rattle.theory.proofs.Slots.{look-norm, look-tent}
+use Rattle.theory.proofs.Looks.{look-norm, look-tent}
 use Rattle.theory.specs.Bus.{Each, Snooped, own, other, Kind, reading, owning, snoops, supplied, Plainly, Granted}
 use Rattle.theory.specs.Bus
-use Rattle.theory.proofs.Refine.{same-refl, cleared, refuses-roll, refuses-none}
+use Rattle.theory.proofs.Refine.{same-refl}
+use Rattle.theory.proofs.Serve.{cleared, refuses-roll, refuses-none}
 use Rattle.serial.proofs.Decode.{slotOf, lineOf, decoded, seen, read-out}
 use Rattle.serial.proofs.Set.{Fit, entryOn, lineOn}
 use Rattle.serial.proofs.Codes.{both-true, either-left, either-right, pick-no, slot-normal, slot-tentative, tagged-fits}

@@ -17,7 +17,7 @@ use Rattle.machine.specs.Own.{home, holds}
 use Rattle.machine.specs.Settled.{isSettling, hasSettling, settlingEntry, settles, settler, settledIn}
 use Rattle.machine.specs.Settled
 use Rattle.theory.specs.View.{bare, backup, Copy, none, regular, normal, tentative, isDirty, owns}
-use Rattle.theory.proofs.Slots.{look-norm}
+use Rattle.theory.proofs.Looks.{look-norm}
 use Rattle.theory.proofs.Agree.{Agree}
 use Rattle.theory.proofs.Settled.{baseData, owns-data}
 use Rattle.theory.specs.Bus.{isRegular}

@@ -14,7 +14,8 @@ use Rattle.machine.specs.Own.{home}
 use Rattle.machine.specs.Sound
 use Rattle.theory.specs.View.{LineState, valid, Back, backup, Copy, none, regular, normal, tentative, above, below, has, exclusive}
 use Rattle.theory.proofs.Cache.{Slot, vacant, slotNormal, slotBackup, slotTentative, slotBack, tentOn, regOn, is-self, is-true, Backs, backed, unbacked}
-use Rattle.theory.proofs.Slots.{look-norm, look-tent, look-reg, look-tentative}
+use Rattle.theory.proofs.Looks.{look-norm, look-tent, look-reg}
+use Rattle.theory.proofs.Slots.{look-tentative}
 use Rattle.serial.proofs.Decode.{stateOf, decoded, seen}
 use Rattle.serial.proofs.Set.{Fit}
 use Rattle.serial.proofs.Codes.{both-true, backup-slot, tagged-fits, Is, slot-normal, slot-tentative}

@@ -5,7 +5,8 @@ use mathlib.Core.Bool.{true, false, true≢false}
 use Prim.Native.Nat.{ℕ}
 use native.Mathlib.Decide.{ℕ-discrete}
 use Rattle.theory.specs.View.{bare, backup, Copy, none, regular, normal, tentative, isTentative, ownValue, rolledBack, committed, Word, View}
-use Rattle.theory.proofs.OneWord.{Move, Low, Alone, moved, rolled, committedWord, drop-reg, drop-norm, drop-back, lower-reg, lower-norm, begin-kept, begin-bare, fill-reg, fill-tent, fill-kept, own-reg, own-tent, own-kept, upgrade}
+use Rattle.theory.proofs.Move.{Move, moved, drop-reg, drop-norm, drop-back, lower-reg, lower-norm, begin-kept, begin-bare, fill-reg, fill-tent, fill-kept, own-reg, own-tent, own-kept, upgrade}
+use Rattle.theory.proofs.OneWord.{Low, Alone, rolled, committedWord}
 use Rattle.theory.specs.Change.{Live, At, OnlyProcessor, same}
 use Rattle.theory.proofs.Moves.{Silent, still, move, rollback, wake}
 

@@ -6,7 +6,8 @@ use mathlib.Core.List.{List, [], _∷_}
 use Prim.Native.Nat.{ℕ}
 use native.Mathlib.Decide.{ℕ-discrete}
 use Rattle.theory.specs.View.{LineState, valid, reserved, dirty, Copy, none, regular, normal, tentative, isDirty, isTentative, exclusive, owns, fine, ownValue, Word, View}
-use Rattle.theory.proofs.OneWord.{Move, Alone, tstored, stored, low-cell, alone-low, released, dry-value, drop-reg, drop-norm, drop-back, lower-reg, lower-norm, begin-kept, begin-bare, fill-reg, fill-tent, fill-kept, own-reg, own-tent, own-kept, upgrade}
+use Rattle.theory.proofs.Move.{Move, drop-reg, drop-norm, drop-back, lower-reg, lower-norm, begin-kept, begin-bare, fill-reg, fill-tent, fill-kept, own-reg, own-tent, own-kept, upgrade}
+use Rattle.theory.proofs.OneWord.{Alone, tstored, stored, low-cell, alone-low, released, dry-value}
 use Rattle.theory.specs.Event.{Event, store, tread}
 use Rattle.theory.specs.Change.{At}
 use Rattle.theory.proofs.Moves.{Silent, still, move, rollback, wake, sees, Shown, loads, stores, writes, treads, twrites, releases, commits, drops, Run, done, quietly, showing}

@@ -1,13 +1,17 @@
 pub mod OneWord
+pub mod Move
 pub mod Moves
 pub mod Logs
 pub mod Agree
 pub mod Invariant
 pub mod Settled
+pub mod Serve
 pub mod Refine
 pub mod Coherent
 pub mod History
 pub mod Cache
+pub mod AllSlots
 pub mod Slots
+pub mod Looks
 pub mod Lines
 pub mod Updates

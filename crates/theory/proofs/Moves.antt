@@ -7,7 +7,8 @@ use Prim.Native.Nat.{ℕ}
 use Rattle.theory.specs.Event.{Event, load, store, tread, twrite, release, commit, drop}
 use Rattle.theory.specs.View.{LineState, dirty, Back, Copy, none, regular, normal, tentative, above, isDirty, isTentative, rolledBack, committed, View}
 use Rattle.theory.specs.Change.{Live, At, OnlyProcessor, same, Same}
-use Rattle.theory.proofs.OneWord.{Move, Low, Alone}
+use Rattle.theory.proofs.Move.{Move}
+use Rattle.theory.proofs.OneWord.{Low, Alone}
 
 pub data Silent (S S′ : View) : Type 0 where
   still : Same S S′ → Silent S S′

@@ -7,7 +7,8 @@ use Prim.Native.Nat.{ℕ, _<_}
 use native.Mathlib.Decide.{ℕ-discrete}
 use Rattle.theory.specs.View.{LineState, Back, bare, backup, Copy, none, regular, normal, tentative, wrote, rolledBack, committed, View}
 use Rattle.theory.specs.Change.{At, OnlyProcessor, same, Same}
-use Rattle.theory.proofs.Cache.{Slot, vacant, slotNormal, slotBackup, slotTentative, Line, blank, filled, mainOn, backOn, tentOn, slotCopy, slotRollback, slotCommit, Backs, look, Tidy, look-calm, tidy-shrink, tidy-settle, look-settle, tidy-roll, look-roll}
+use Rattle.theory.proofs.Cache.{Slot, vacant, slotNormal, slotBackup, slotTentative, Line, blank, filled, mainOn, backOn, tentOn, slotCopy, Backs, look, Tidy, look-calm, tidy-shrink}
+use Rattle.theory.proofs.AllSlots.{slotRollback, slotCommit, tidy-settle, look-settle, tidy-roll, look-roll}
 use Rattle.theory.proofs.Slots.{wordIs, look-normal, look-else, tidy-out, look-out, tidy-backout, look-backout, tidy-turn, look-turn, tidy-in, look-in, tidy-back, look-back}
 use Rattle.theory.proofs.Lines.{lineIs, tidy-line, line-else, look-blank, look-filled}
 use Rattle.theory.specs.Bus
