@@ -10,6 +10,7 @@ use Rattle.laws.specs.Choice.{pick}
 use Rattle.entry.specs.declared.Entry.{Entry}
 use Rattle.entry.specs.declared.answer.Answer.{Answer}
 use Rattle.entry.specs.declared.answer.Answer.the-variants.{Success, Failure, True, False}
+use Rattle.entry.specs.Numbers.{BACKUP, TENTATIVE}
 use Rattle.entry.specs.Packing.{InRange}
 use Rattle.entry.specs.Answer.{noCycles}
 use Rattle.entry.specs.Entry.{rolledBack, committed}
@@ -31,7 +32,7 @@ use Rattle.serial.specs.Shown.{byEnd}
 use Rattle.serial.proofs.Decode.{slotOf, decoded, seen, read-at, read-same}
 use Rattle.serial.proofs.Frame.{EntryFits, Fits, Frame}
 use Rattle.serial.proofs.Set.{Fit}
-use Rattle.serial.proofs.Over.{over-in, over-else, over-copies, slot-rolled, slot-committed, range-rolled, range-committed, fits-rolled, fits-committed}
+use Rattle.serial.proofs.Over.{over-in, over-else, over-copies, slot-rolled, slot-committed, range-ends, fits-ends}
 use Rattle.serial.proofs.Flag.{FlagsTo, set-active, down, ended-flags}
 
 -- an outcome is a step of the theory that shows the events of its answer, and leaves the state fit
@@ -83,13 +84,13 @@ module _ {d : Dims} {s : Caches} (F : Fit d s) (p : ℕ) (lp : p < d .processors
   unfolding rolledEntries
   rolls =
       let T = down (F .frame .flags) (F .frame .size .processors) p lp in
-      rolled-back (d .entries) (home d) p (F .tidy) (maps rolledBack range-rolled slotRollback slot-rolled T) (T .active) (T .status)
+      rolled-back (d .entries) (home d) p (F .tidy) (maps rolledBack (range-ends TENTATIVE BACKUP) slotRollback slot-rolled T) (T .active) (T .status)
 
   pub rollback-fit : Fit d (rollback d p s)
   unfolding rolledEntries
   rollback-fit = record {
-    frame = mapped-frame rolledBack range-rolled slotRollback slot-rolled (down (F .frame .flags) (F .frame .size .processors) p lp)
-        (λ i e. fits-rolled e);
+    frame = mapped-frame rolledBack (range-ends TENTATIVE BACKUP) slotRollback slot-rolled (down (F .frame .flags) (F .frame .size .processors) p lp)
+        (λ i. fits-ends TENTATIVE BACKUP (λ z. omega arith));
     tidy = rolls .0;
   }
 
@@ -156,15 +157,20 @@ module _ {d : Dims} {s : Caches} (F : Fit d s) (p : ℕ) (lp : p < d .processors
       T : FlagsTo (d .processors) p false true (s .flags) (ended p s .flags)
       T = ended-flags (F .frame .flags) (F .frame .size .processors) p lp
 
-      all : AllTidy (d .entries) (home d) (decoded d (mapped committed range-committed slotCommit slot-committed T))
-          × OnlyProcessor View.committed p (seen d s) (seen d (mapped committed range-committed slotCommit slot-committed T))
-      all = slots-committed (d .entries) (home d) p (F .tidy) (maps committed range-committed slotCommit slot-committed T)
+      all : AllTidy (d .entries) (home d) (decoded d (mapped committed (range-ends BACKUP TENTATIVE) slotCommit slot-committed T))
+          × OnlyProcessor View.committed p (seen d s) (seen d (mapped committed (range-ends BACKUP TENTATIVE) slotCommit slot-committed T))
+      all = slots-committed (d .entries) (home d) p (F .tidy) (maps committed (range-ends BACKUP TENTATIVE) slotCommit slot-committed T)
 
       by : (b : Bool) → TSTATUS s p ≡ b
           → Does d (seen d s) (byEnd p)
-          (pick b (gives Success noCycles (mapped committed range-committed slotCommit slot-committed T)) (gives Failure noCycles (ended p s)))
+          (pick b (gives Success noCycles (mapped committed (range-ends BACKUP TENTATIVE) slotCommit slot-committed T))
+          (gives Failure noCycles (ended p s)))
       by true e = record {
-        fit = record { frame = mapped-frame committed range-committed slotCommit slot-committed T (λ i e. fits-committed e); tidy = all .0 };
+        fit = record {
+          frame = mapped-frame committed (range-ends BACKUP TENTATIVE) slotCommit slot-committed T
+              (λ i. fits-ends BACKUP TENTATIVE (λ z. omega arith));
+          tidy = all .0;
+        };
         step = commit-yes (status-at ∙ e) (all .1) (T .active) (T .status);
       }
       by false e = record { fit = ended-fit; step = over (status-at ∙ e) ended-is }

@@ -1,7 +1,7 @@
 -- A fresh machine is fit, its caches are empty, and it is sound.
 use mathlib.Core.Path.{_≡_, refl, sym, _∙_, ap, subst⁻¹}
 use mathlib.Core.Logic.{inl}
-use mathlib.Core.Bool.{Bool, true, false, false≢true}
+use mathlib.Core.Bool.{Bool, true, false}
 use mathlib.Core.List.{List, [], _∷_, _++_}
 use Prim.Native.Nat.{ℕ, _+_, _-_, _≤_, _<_}
 use native.Mathlib.Decide.{decLt}
@@ -20,9 +20,9 @@ use Rattle.machine.specs.Own.{home}
 use Rattle.machine.specs.Refusals.{accepted, badMemory}
 use Rattle.machine.specs.Making.{dimsRefusal, makeRefusal, padded, freshFlags, fresh, smallest, made, makeOf}
 use Rattle.machine.specs.Sound.{Sound}
-use Rattle.theory.specs.View.{none}
-use Rattle.theory.proofs.Cache.{vacant, blank, Tidy, nowhere, looks}
+use Rattle.theory.proofs.Cache.{vacant, blank}
 use Rattle.theory.proofs.Settled.{Bare, bare-inv, agree→coherent}
+use Rattle.theory.proofs.Looks.{tidy-empty, look-empty}
 use Rattle.serial.specs.Taking.{valueEnd, Values}
 use Rattle.serial.proofs.Decode.{slotOf, lineOf, readBy, decoded, seen}
 use Rattle.serial.proofs.Frame.{LineFits, EntryFits, Copies, Words, Flags, Size, Frame}
@@ -140,21 +140,14 @@ module _ (d : Dims) (memory : List ℕ) (dims : dimsRefusal d ≡ accepted) (lon
       by true = ap lineOf (ap unpack (zeros 512 (place p i)))
       by false = refl
 
-  tidy : (p : ℕ) → Tidy (d .entries) (home d) (decoded d (fresh d memory) .slot p) (decoded d (fresh d memory) .line p)
-  tidy p = record {
-    mains = λ w i j l l′ h h′. absurd (false≢true (rw (slots p i) at h));
-    backs = λ w i j l l′ h h′. absurd (false≢true (rw (slots p i) at h));
-    apart = λ w i l h. absurd (false≢true (rw (slots p i) at h));
-    paired = λ w j l h. absurd (false≢true (rw (slots p j) at h));
+  pub fresh-fit : Fit d (fresh d memory)
+  fresh-fit = record {
+    frame = frame;
+    tidy = λ p. tidy-empty (d .entries) (home d) (decoded d (fresh d memory) .slot p) (decoded d (fresh d memory) .line p) (slots p);
   }
 
-  pub fresh-fit : Fit d (fresh d memory)
-  fresh-fit = record { frame = frame; tidy = tidy }
-
   pub fresh-bare : Bare (seen d (fresh d memory))
-  fresh-bare w p =
-      looks (d .entries) (home d) (decoded d (fresh d memory) .slot p) (decoded d (fresh d memory) .line p) (tidy p) w none
-      (nowhere (rw (lines p (home d w))) (λ i l. rw (slots p i)) refl)
+  fresh-bare w p = look-empty (d .entries) (home d) (decoded d (fresh d memory) .slot p) (decoded d (fresh d memory) .line p) (slots p) (lines p) w
 
   pub fresh-sound : Sound d (fresh d memory)
   fresh-sound =

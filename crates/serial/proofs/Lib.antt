@@ -7,9 +7,9 @@ pub mod Ends
 pub mod Codes
 pub mod Find
 pub mod Others
+pub mod Lined
 pub mod Snoop
 pub mod Requests
-pub mod Lined
 pub mod Load
 pub mod Store
 pub mod Slotted

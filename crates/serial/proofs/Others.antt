@@ -9,7 +9,7 @@ use borrow.Author.Tests.{eqb-true, eqb-false, ne-eqb, ltb-true, ltb-false, not-t
 use Rattle.laws.specs.Choice.{pick, both, either}
 use Rattle.laws.specs.Fold.{foldRange}
 use Rattle.laws.specs.Search.{firstFrom, first-has, first-not}
-use Rattle.entry.specs.Numbers.{RESERVED, TENTATIVE}
+use Rattle.entry.specs.Numbers.{RESERVED, BACKUP, TENTATIVE}
 use Rattle.entry.specs.Entry.{rolledBack, shares, takes}
 use Rattle.machine.specs.declared.Dims.{Dims}
 use Rattle.machine.specs.State.{Caches, entryAt, lineAt}
@@ -22,7 +22,7 @@ use Rattle.theory.specs.Bus
 use Rattle.theory.proofs.Refine.{same-refl}
 use Rattle.serial.proofs.Decode.{seen}
 use Rattle.serial.proofs.Set.{Fit}
-use Rattle.serial.proofs.Over.{over-else, range-rolled}
+use Rattle.serial.proofs.Over.{over-else, range-ends}
 use Rattle.serial.proofs.Ends.{rollback-fit, rollback-is}
 use Rattle.serial.proofs.Codes.{both-left, both-right, above-code, tagged-fits}
 use Rattle.serial.proofs.Find.{found-tag, found-word, entry-fits, has-tentative, no-tentative}
@@ -142,7 +142,8 @@ module _ (d : Dims) (k : Kind) (c : ℕ) (C : Cycle k c) (p w : ℕ) (lp : p < d
   unfolding rolledEntries
   own-rolled q s lq n F = record {
     entries = λ i l.
-        over-else rolledBack range-rolled q (d .entries) (omega (arith, F .frame .size .processors)) (F .frame .size .entries) (s .entries)
+        over-else rolledBack (range-ends TENTATIVE BACKUP) q (d .entries) (omega (arith, F .frame .size .processors)) (F .frame .size .entries)
+        (s .entries)
         (F .frame .entries .long) p i (omega (arith, F .frame .size .processors)) l (inl (λ z. n (sym z)));
     lines = λ i l. refl;
   }

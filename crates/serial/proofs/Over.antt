@@ -12,9 +12,9 @@ use borrow.Author.Tests.{eqb-true}
 use Rattle.laws.specs.Choice.{pick}
 use Rattle.laws.specs.Places.{apply-length, apply-other, apply-in}
 use Rattle.entry.specs.declared.Entry.{Entry}
-use Rattle.entry.specs.Numbers.{NORMAL, BACKUP, TENTATIVE}
+use Rattle.entry.specs.Numbers.{INVALID, NORMAL, BACKUP, TENTATIVE}
 use Rattle.entry.specs.Packing.{unpack, noEntry, packedEnd, InRange, unpack-pack, unpack-range, pack-range}
-use Rattle.entry.specs.Entry.{rolledBack, committed}
+use Rattle.entry.specs.Entry.{withTag, rolledBack, committed}
 use Rattle.machine.specs.declared.Dims.{Dims}
 use Rattle.machine.specs.State.{place, copyAt}
 use Rattle.machine.specs.Rollback.{repacked, overEntries}
@@ -95,43 +95,23 @@ module _ (e : Entry) where
       by false false true h₁ h₂ h₃ = simp (h₂, h₃)
       by false false false h₁ h₂ h₃ = simp (h₂, h₃, h₁)
 
-  pub range-rolled : InRange e → InRange (rolledBack e)
-  range-rolled h = by (eqb (e .tag) TENTATIVE) (eqb (e .tag) BACKUP)
-    where
-      by : (x y : Bool) → InRange (pick x noEntry (pick y (record { state = e .state; tag = NORMAL; word = e .word; «data» = e .«data» }) e))
-      by true y = record { state = omega arith; tag = omega arith; word = omega arith; «data» = omega arith }
-      by false true = record { state = h .state; tag = omega arith; word = h .word; «data» = h .«data» }
-      by false false = h
+-- both are this: entries tagged a become invalid, entries tagged b NORMAL
+abbrev pub ends : ℕ → ℕ → Entry → Entry
+ends a b e = pick (eqb (e .tag) a) noEntry (pick (eqb (e .tag) b) (withTag e NORMAL) e)
 
-  pub range-committed : InRange e → InRange (committed e)
-  range-committed h = by (eqb (e .tag) BACKUP) (eqb (e .tag) TENTATIVE)
-    where
-      by : (x y : Bool) → InRange (pick x noEntry (pick y (record { state = e .state; tag = NORMAL; word = e .word; «data» = e .«data» }) e))
-      by true y = record { state = omega arith; tag = omega arith; word = omega arith; «data» = omega arith }
-      by false true = record { state = h .state; tag = omega arith; word = h .word; «data» = h .«data» }
-      by false false = h
+pub range-ends : (a b : ℕ) (e : Entry) → InRange e → InRange (ends a b e)
+range-ends a b e h = by (eqb (e .tag) a) (eqb (e .tag) b)
+  where
+    by : (x y : Bool) → InRange (pick x noEntry (pick y (withTag e NORMAL) e))
+    by true y = record { state = omega arith; tag = omega arith; word = omega arith; «data» = omega arith }
+    by false true = record { state = h .state; tag = omega arith; word = h .word; «data» = h .«data» }
+    by false false = h
 
-  module _ {d : Dims} {p i : ℕ} where
-    -- an entry that becomes NORMAL, or invalid
-    retagged : EntryFits d p i e → EntryFits d p i (record { state = e .state; tag = NORMAL; word = e .word; «data» = e .«data» })
-    retagged f = record { processor = f .processor; slot = f .slot; held = f .held; tag = λ z. omega arith; word = f .word }
-
-    pub fits-rolled : Fits (EntryFits d) p i e → Fits (EntryFits d) p i (rolledBack e)
-    fits-rolled f = by (eqb (e .tag) TENTATIVE) (eqb (e .tag) BACKUP) refl f
-      where
-        by : (x y : Bool) → eqb (e .tag) BACKUP ≡ y → Fits (EntryFits d) p i e
-            → Fits (EntryFits d) p i (pick x noEntry (pick y (record { state = e .state; tag = NORMAL; word = e .word; «data» = e .«data» }) e))
-        by true y h f = inl refl
-        by false true h (inl z) = absurd (omega (arith, eqb-true (e .tag) BACKUP h, ap (λ (x : Entry). x .tag) z))
-        by false true h (inr g) = inr (retagged g)
-        by false false h f = f
-
-    pub fits-committed : Fits (EntryFits d) p i e → Fits (EntryFits d) p i (committed e)
-    fits-committed f = by (eqb (e .tag) BACKUP) (eqb (e .tag) TENTATIVE) refl f
-      where
-        by : (x y : Bool) → eqb (e .tag) TENTATIVE ≡ y → Fits (EntryFits d) p i e
-            → Fits (EntryFits d) p i (pick x noEntry (pick y (record { state = e .state; tag = NORMAL; word = e .word; «data» = e .«data» }) e))
-        by true y h f = inl refl
-        by false true h (inl z) = absurd (omega (arith, eqb-true (e .tag) TENTATIVE h, ap (λ (x : Entry). x .tag) z))
-        by false true h (inr g) = inr (retagged g)
-        by false false h f = f
+pub fits-ends : {d : Dims} {p i : ℕ} (a b : ℕ) → b ≢ INVALID → (e : Entry) → Fits (EntryFits d) p i e → Fits (EntryFits d) p i (ends a b e)
+fits-ends {d} {p} {i} a b n e f = by (eqb (e .tag) a) (eqb (e .tag) b) refl f
+  where
+    by : (x y : Bool) → eqb (e .tag) b ≡ y → Fits (EntryFits d) p i e → Fits (EntryFits d) p i (pick x noEntry (pick y (withTag e NORMAL) e))
+    by true y h f = inl refl
+    by false true h (inl z) = absurd (n (sym (eqb-true (e .tag) b h) ∙ ap (λ (x : Entry). x .tag) z))
+    by false true h (inr g) = inr (record { processor = g .processor; slot = g .slot; held = g .held; tag = λ z. omega arith; word = g .word })
+    by false false h f = f

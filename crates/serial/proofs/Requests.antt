@@ -18,8 +18,8 @@ use Rattle.machine.specs.State.{Caches, lineAt, entryAt}
 use Rattle.machine.specs.Own.{home, holds, hasLive, liveEntry}
 use Rattle.machine.specs.Bus.{writtenBack, snoopLine, snoopEntry, snoopOne, snoop, refuses, rollOthers, plainRequest}
 use Rattle.theory.specs.View.{Copy, none, regular, normal, tentative}
-use Rattle.theory.proofs.Cache.{vacant, blank, mainOn, is-self, nowhere, looks}
-use Rattle.theory.proofs.Looks.{look-norm, look-tent}
+use Rattle.theory.proofs.Cache.{vacant, blank, mainOn, is-self}
+use Rattle.theory.proofs.Looks.{look-norm, look-tent, look-empty}
 use Rattle.theory.specs.Bus.{Each, Snooped, own, other, Kind, reading, owning, snoops, supplied, Plainly, Granted}
 use Rattle.theory.specs.Bus
 use Rattle.theory.proofs.Refine.{same-refl}
@@ -187,16 +187,9 @@ module _ (d : Dims) (k : Kind) (c : ℕ) (C : Cycle k c) (p w : ℕ) (lp : p < d
 -- past the processors nobody has a copy
 pub beyond : (d : Dims) (s : Caches) (w q : ℕ) → d .processors ≤ q → seen d s .copy w q ≡ none
 beyond d s w q l =
-    looks (d .entries) (home d) (decoded d s .slot q) (decoded d s .line q)
-    (record {
-      mains = λ u i j a b x y. absurd (false≢true (rw (slots i) at x));
-      backs = λ u i j a b x y. absurd (false≢true (rw (slots i) at x));
-      apart = λ u i a x. absurd (false≢true (rw (slots i) at x));
-      paired = λ u j a x. absurd (false≢true (rw (slots j) at x));
-    }) w none (nowhere (rw (read-out lineOf blank (d .processors) (d .lines) (s .lines) q (home d w) l)) (λ i a. rw (slots i)) refl)
-  where
-    slots : (i : ℕ) → decoded d s .slot q i ≡ vacant
-    slots i = read-out slotOf vacant (d .processors) (d .entries) (s .entries) q i l
+    look-empty (d .entries) (home d) (decoded d s .slot q) (decoded d s .line q)
+    (λ i. read-out slotOf vacant (d .processors) (d .entries) (s .entries) q i l)
+    (λ i. read-out lineOf blank (d .processors) (d .lines) (s .lines) q i l) w
 
 -- what a request leaves: the state is fit, and p's own copies stay
 pub record Served (d : Dims) (p : ℕ) (s s′ : Caches) : Type 0 where

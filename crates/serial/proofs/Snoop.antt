@@ -20,15 +20,16 @@ use Rattle.theory.specs.View.{valid, Copy, none, regular, normal, tentative, wr
 use Rattle.theory.specs.Change.{At, Same}
 use Rattle.theory.proofs.Cache.{Slot, slotNormal, slotCopy, filled, mainOn, is-self, back-is}
 use Rattle.theory.proofs.Lines.{lineIs, line-main}
-use Rattle.theory.proofs.Updates.{AllTidy, SlotSet, LineSet, lined, line-in, line-out, turned, normal-gone, unmoved}
+use Rattle.theory.proofs.Updates.{AllTidy, SlotSet, turned, normal-gone, unmoved}
 use Rattle.theory.specs.Bus.{Kind, reading, owning, snoops, supplied}
 use Rattle.theory.specs.Bus
 use Rattle.theory.proofs.Refine.{same-refl}
 use Rattle.serial.proofs.Decode.{stateOf, slotOf, lineOf, decoded, seen, copy-else}
 use Rattle.serial.proofs.Frame.{LineFits, EntryFits, Fits, fits-word, line-word}
-use Rattle.serial.proofs.Set.{Fit, entryOn, lineOn, Memory, back-at, back-here, set-slot, set-line, entry-fit, line-fit}
+use Rattle.serial.proofs.Set.{Fit, entryOn, lineOn, Memory, back-at, back-here, set-slot, entry-fit}
 use Rattle.serial.proofs.Codes.{both-left, both-right, normal-slot, above-code, tagged-fits}
 use Rattle.serial.proofs.Find.{home-in, backing, entry-fits, line-fits, line-filled, has-regular, slot-at, slot-normal-at, has-normal, has-tentative}
+use Rattle.serial.proofs.Lined.{none-range, lined-at, lined-fit, lined-blank, lined-regular}
 use Rattle.serial.proofs.Others.{Cycle, Own, own-refl}
 
 -- what a copy becomes
@@ -49,9 +50,6 @@ pub snooped-is : (k : Kind) (c : ℕ) → Cycle k c → (e : Entry) → e .state
 snooped-is reading c C e l n = ap (λ (b : Bool). pick b (shared e) (pick (takes c) noEntry e)) (C .share) ∙ shared-is e l n
 snooped-is owning c C e l n =
     ap (λ (b : Bool). pick b (shared e) (pick (takes c) noEntry e)) (C .share) ∙ ap (λ (b : Bool). pick b noEntry e) (C .take)
-
-none-range : InRange noEntry
-none-range = record { state = omega arith; tag = omega arith; word = omega arith; «data» = omega arith }
 
 left-range : (k : Kind) (e : Entry) → InRange e → InRange (left k e)
 left-range reading e h = record { state = omega arith; tag = h .tag; word = h .word; «data» = h .«data» }
@@ -137,29 +135,21 @@ module _ {d : Dims} {s : Caches} (F : Fit d s) (q : ℕ) (lq : q < d .processors
     was = has-regular F q lq w e h o
 
     -- what the line becomes, and the copy with it
-    module _ (to : Entry) (rt : InRange to) (ft : Fits (LineFits d) q (home d w) to) (yt : lineIs w (lineOf to)) where
-      abbrev s′ : Caches
-      s′ = lineOn s (writtenBack (s .memory) e) q (home d w) to
-
-      change : LineSet (d .entries) (home d) q (home d w) (lineOf to) w (decoded d s) (decoded d s′)
-      change = set-line (F .frame) line-memory q (home d w) lq to rt (home-in (F .frame .size) w)
-
-      goes : AllTidy (d .entries) (home d) (decoded d s′) × At q w (seen d s) (seen d s′)
-      goes = lined (d .entries) (home d) (F .tidy) refl change refl old yt main
-
-      whole : seen d s′ .copy w q ≡ snoops k (seen d s .copy w q) → Asked d k w q s s′
-      whole c = record {
-        fit = line-fit (F .frame) line-memory q (home d w) lq to rt (home-in (F .frame .size) w) ft (goes .0);
-        at = goes .1;
-        copy = c;
-        memory = back-here (F .frame) e line-of-w (line-word fits) ∙ sym (ap (λ (c : Copy). supplied c (wordAt s w)) was);
-        kept = λ p lp n. record {
-          entries = λ i l. refl;
-          lines = λ i l.
-              copy-else (s .lines) (F .frame .lines .long) q (home d w) (omega (arith, F .frame .size .processors))
-              (omega (arith, home-in (F .frame .size) w, F .frame .size .lines)) to rt p i lp l (inl n);
-        };
-      }
+    whole : (to : Entry) (rt : InRange to) (ft : Fits (LineFits d) q (home d w) to) (yt : lineIs w (lineOf to))
+        → seen d (lineOn s (writtenBack (s .memory) e) q (home d w) to) .copy w q ≡ snoops k (seen d s .copy w q)
+        → Asked d k w q s (lineOn s (writtenBack (s .memory) e) q (home d w) to)
+    whole to rt ft yt c = record {
+      fit = lined-fit F q lq w (home d w) refl line-memory to rt ft yt old main;
+      at = lined-at F q lq w (home d w) refl line-memory to rt ft yt old main;
+      copy = c;
+      memory = back-here (F .frame) e line-of-w (line-word fits) ∙ sym (ap (λ (c : Copy). supplied c (wordAt s w)) was);
+      kept = λ p lp n. record {
+        entries = λ i l. refl;
+        lines = λ i l.
+            copy-else (s .lines) (F .frame .lines .long) q (home d w) (omega (arith, F .frame .size .processors))
+            (omega (arith, home-in (F .frame .size) w, F .frame .size .lines)) to rt p i lp l (inl n);
+      };
+    }
 
     pub line-asked : Asked d k w q s (lineOn s (writtenBack (s .memory) e) q (home d w) (left k e))
     line-asked = by k refl
@@ -174,13 +164,14 @@ module _ {d : Dims} {s : Caches} (F : Fit d s) (q : ℕ) (lq : q < d .processors
 
         by : (k′ : Kind) → k ≡ k′ → Asked d k w q s (lineOn s (writtenBack (s .memory) e) q (home d w) (left k′ e))
         by reading ek =
-            whole (withState e VALID) (left-range reading e r) (kept-fits fits) line-of-w
-            (line-in (d .entries) (home d) (F .tidy) refl (change (withState e VALID) (left-range reading e r) (kept-fits fits) line-of-w) refl old
-            valid-line main ∙ sym (ap (snoops k) was ∙ rw ek))
+            let r′ = left-range reading e r in
+            let f′ = kept-fits fits in
+            whole (withState e VALID) r′ f′ line-of-w
+            (lined-regular F q lq w (home d w) refl line-memory (withState e VALID) r′ f′ line-of-w old main valid-line ∙ sym
+            (ap (snoops k) was ∙ rw ek))
         by owning ek =
             whole noEntry none-range (inl refl) tt
-            (line-out (d .entries) (home d) (F .tidy) refl (change noEntry none-range (inl refl) tt) refl old refl main ∙ sym
-            (ap (snoops k) was ∙ rw ek))
+            (lined-blank F q lq w (home d w) refl line-memory noEntry none-range (inl refl) tt old main refl ∙ sym (ap (snoops k) was ∙ rw ek))
 
   -- q's NORMAL or tentative one, at entry i
   module _ (i : ℕ) (li : i < d .entries) (e : Entry) (h : entryAt s q i ≡ e) (r : InRange e) (ew : e .word ≡ w) where

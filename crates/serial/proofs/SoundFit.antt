@@ -16,6 +16,7 @@ use Rattle.machine.specs.State.{Caches, lineAt, entryAt, wordAt}
 use Rattle.machine.specs.Own.{home}
 use Rattle.machine.specs.Sound.{Sound, Copy}
 use Rattle.theory.proofs.Cache.{vacant, blank, filled, is-self, is-true, mainOn, backOn, tentOn, regOn, Tidy, not-true}
+use Rattle.theory.proofs.Looks.{tidy-empty}
 use Rattle.serial.specs.Taking.{valueEnd}
 use Rattle.serial.proofs.Decode.{stateOf, slotBy, slotOf, lineOf, decoded, read-at, read-out}
 use Rattle.serial.proofs.Frame.{LineFits, EntryFits, Fits, Size, Frame}
@@ -50,18 +51,6 @@ line-says w e h = by (eqb (e .state) INVALID) refl h
         → (e .state ≢ INVALID) × (e .word ≡ w)
     by true hz h = absurd (false≢true h)
     by false hz h = (eqb-false (e .state) INVALID hz, is-true (e .word) w h)
-
--- a processor past the number has nothing
-pub tidy-out : (d : Dims) (s : Caches) (q : ℕ) → d .processors ≤ q → Tidy (d .entries) (home d) (decoded d s .slot q) (decoded d s .line q)
-tidy-out d s q l = record {
-  mains = λ u i j a b x y. absurd (false≢true (rw (slots i) at x));
-  backs = λ u i j a b x y. absurd (false≢true (rw (slots i) at x));
-  apart = λ u i a x. absurd (false≢true (rw (slots i) at x));
-  paired = λ u j a x. absurd (false≢true (rw (slots j) at x));
-}
-  where
-    slots : (i : ℕ) → decoded d s .slot q i ≡ vacant
-    slots i = read-out slotOf vacant (d .processors) (d .entries) (s .entries) q i l
 
 module _ {d : Dims} {s : Caches} (Z : Sound d s) (values : (w : ℕ) → wordAt s w < valueEnd) where
   size : Size d
@@ -176,5 +165,10 @@ module _ {d : Dims} {s : Caches} (Z : Sound d s) (values : (w : ℕ) → wordAt 
   pub sound-fit : Fit d s
   sound-fit = record {
     frame = frame;
-    tidy = λ p. elim (decLt p (d .processors)) [ yes l ↦ tidy-in p l | no l ↦ tidy-out d s p (omega arith) ];
+    tidy = λ p. elim (decLt p (d .processors)) [ yes l ↦ tidy-in p l | no l ↦ out p (omega arith) ];
   }
+    where
+      out : (p : ℕ) → d .processors ≤ p → Tidy (d .entries) (home d) (decoded d s .slot p) (decoded d s .line p)
+      out p l =
+          tidy-empty (d .entries) (home d) (decoded d s .slot p) (decoded d s .line p)
+          (λ i. read-out slotOf vacant (d .processors) (d .entries) (s .entries) p i l)

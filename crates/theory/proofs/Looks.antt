@@ -3,7 +3,7 @@ use mathlib.Core.Path.{_≡_, refl, sym, _∙_}
 use mathlib.Core.Bool.{Bool, true, false, true≢false, false≢true}
 use Prim.Native.Nat.{ℕ, _<_}
 use Rattle.theory.specs.View.{LineState, Back, Copy, none, regular, normal, tentative}
-use Rattle.theory.proofs.Cache.{Slot, vacant, slotNormal, slotBackup, slotTentative, Line, blank, filled, is-true, mainOn, backOn, regOn, regCopy, slotCopy, Backs, Has, in-line, in-slot, nowhere, look, look-is, Tidy, main-tent, not-true}
+use Rattle.theory.proofs.Cache.{Slot, vacant, slotNormal, slotBackup, slotTentative, Line, blank, filled, is-true, mainOn, backOn, regOn, regCopy, slotCopy, Backs, Has, in-line, in-slot, nowhere, look, look-is, Tidy, main-tent, not-true, looks}
 use Rattle.theory.proofs.Slots.{look-none}
 
 -- what is seen is in a slot
@@ -70,3 +70,16 @@ pub none-backs : (E : ℕ) (home : ℕ → ℕ) (slot : ℕ → Slot) (line : �
     → (j : ℕ) → j < E → backOn w (slot j) ≡ false
 none-backs E home slot line T w e j l = not-true _
     (λ h. let x = T .paired w j l h in true≢false (sym (main-tent w (slot (x .0)) (x .2)) ∙ look-none E home slot line w e .1 (x .0) (x .1)))
+
+-- empty caches
+module _ (E : ℕ) (home : ℕ → ℕ) (slot : ℕ → Slot) (line : ℕ → Line) (slots : (i : ℕ) → slot i ≡ vacant) where
+  pub tidy-empty : Tidy E home slot line
+  tidy-empty = record {
+    mains = λ w i j l l′ h h′. absurd (false≢true (rw (slots i) at h));
+    backs = λ w i j l l′ h h′. absurd (false≢true (rw (slots i) at h));
+    apart = λ w i l h. absurd (false≢true (rw (slots i) at h));
+    paired = λ w j l h. absurd (false≢true (rw (slots j) at h));
+  }
+
+  pub look-empty : ((h : ℕ) → line h ≡ blank) → (w : ℕ) → look E home slot line w ≡ none
+  look-empty lines w = looks E home slot line tidy-empty w none (nowhere (rw (lines (home w))) (λ i l. rw (slots i)) refl)

@@ -168,8 +168,12 @@ by false f g = g refl
 pub coherent→agree : {S : View} (n : ℕ) → Coherent n S → ((w p : ℕ) → coarse (S .copy w p)) → Agree S (settled n S)
 coherent→agree {S} n C co =
     record {
-      words = λ w. record
-          { only = C .only w; holds = λ p. hold w p (S .copy w p) refl (C .order w p) (C .equal w p) (co w p); cell = λ h. sym (settled-mem n _ _ h) };
+      words = λ w. record {
+        only = C .only w;
+        holds = λ p. hold w p (S .copy w p) refl (C .order w p) (C .equal w p) (co w p);
+        cell =
+            λ h. sym (settled-mem n _ _ h);
+      };
       live = C .live;
     }
   where
