@@ -15,3 +15,4 @@ pub mod Slots
 pub mod Looks
 pub mod Lines
 pub mod Updates
+pub mod Refuted
