@@ -116,7 +116,8 @@ module _ (d : Dims) (memory : List ℕ) (values : Values memory) (ok : makeOf d 
           let l′ : w < m .dims .words = subst⁻¹ (λ (z : Dims). w < z .words) (a .dims) l in
           rw (sound-true (m .dims) (cachesOf m) (a .sound), lt-ltb w (m .dims .words) l′) (ap Value (a .settled-value w))
 
-  -- Every VALUE that a transaction was answered, also one that later aborts or never ends, with its own earlier writes, is the plain memory's at that step.
+  -- Every VALUE that a transaction was answered, also one that later aborts or never ends, is, with its own earlier writes, the plain memory's
+  -- at that step.
   pub opacity : Opaque (events ds) (start memory)
   opacity = agreed .opaque-reads
 

@@ -63,9 +63,9 @@ module _ {d : Dims} {s : Caches} (F : Fit d s) (p : ℕ) (lp : p < d .processors
           (F .frame .entries .long) q j
           (omega (arith, F .frame .size .processors)) (omega (arith, F .frame .size .entries)) (inl n));
       lines = λ q i. refl;
-      mems = λ u. refl;
-      acts = T .active-else;
-      stas = T .status-else;
+      memories = λ u. refl;
+      actives = T .active-else;
+      statuses = T .status-else;
     }
 
     pub mapped-frame : ((i : ℕ) (e : Entry) → Fits (EntryFits d) p i e → Fits (EntryFits d) p i (g e)) → Frame d mapped
@@ -104,9 +104,9 @@ module _ {d : Dims} {s : Caches} (F : Fit d s) (p : ℕ) (lp : p < d .processors
       here = λ i l. refl;
       slots = λ q j n l. refl;
       lines = λ q i. refl;
-      mems = λ u. refl;
-      acts = T .active-else;
-      stas = T .status-else;
+      memories = λ u. refl;
+      actives = T .active-else;
+      statuses = T .status-else;
     }
 
     pub flag-fit : Fit d (withFlags s fs)

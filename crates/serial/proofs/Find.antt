@@ -14,9 +14,9 @@ use Rattle.machine.specs.declared.Dims.{Dims}
 use Rattle.machine.specs.State.{Caches, lineAt, entryAt}
 use Rattle.machine.specs.Own.{home, holds, hasEntry, findEntry}
 use Rattle.theory.specs.View.{Back, Copy, none, regular, normal, tentative, isTentative}
-use Rattle.theory.proofs.Cache.{vacant, slotNormal, slotTentative, blank, filled, regOn, is-self, is-true, looks, in-line, back-is, backOf}
+use Rattle.theory.proofs.Cache.{vacant, slotNormal, slotTentative, blank, filled, regularOn, is-self, is-true, looks, in-line, back-is, backOf}
 use Rattle.theory.proofs.Slots.{look-normal, look-tentative}
-use Rattle.theory.proofs.Looks.{look-norm, look-tent, look-reg}
+use Rattle.theory.proofs.Looks.{normal-seen, tentative-seen, regular-seen}
 use Rattle.theory.specs.Bus.{isNormal, isRegular}
 use Rattle.serial.proofs.Decode.{stateOf, slotOf, lineOf, decoded, seen, read-at}
 use Rattle.serial.proofs.Frame.{LineFits, EntryFits, Fits, Size}
@@ -94,7 +94,7 @@ module _ {d : Dims} {s : Caches} (F : Fit d s) (p : ℕ) (lp : p < d .processors
     pub no-regular : (e : Entry) → lineAt s p (home d w) ≡ e → holds e w ≡ false → isRegular (seen d s .copy w p) ≡ false
     no-regular e q h = go (seen d s .copy w p) refl
       where
-        on : (b : Bool) → eqb (e .state) INVALID ≡ b → regOn w (lineOf e) ≡ true → both (not b) (eqb (e .word) w) ≡ true
+        on : (b : Bool) → eqb (e .state) INVALID ≡ b → regularOn w (lineOf e) ≡ true → both (not b) (eqb (e .word) w) ≡ true
         on true z r = absurd (true≢false (sym (rw z at r)))
         on false z r = eq-eqb (e .word) w (is-true (e .word) w (rw z at r))
 
@@ -103,8 +103,8 @@ module _ {d : Dims} {s : Caches} (F : Fit d s) (p : ℕ) (lp : p < d .processors
         go (normal x y) z = refl
         go (tentative x y b t) z = refl
         go (regular x y) z =
-            let r = look-reg (d .entries) (home d) (decoded d s .slot p) (decoded d s .line p) w z in
-            absurd (true≢false (sym (on (eqb (e .state) INVALID) refl (ap (regOn w) (sym (line-at w ∙ ap lineOf q)) ∙ r)) ∙ h))
+            let r = regular-seen (d .entries) (home d) (decoded d s .slot p) (decoded d s .line p) w z in
+            absurd (true≢false (sym (on (eqb (e .state) INVALID) refl (ap (regularOn w) (sym (line-at w ∙ ap lineOf q)) ∙ r)) ∙ h))
 
     -- the NORMAL copy, at entry i
     module _ (i : ℕ) (li : i < d .entries) (e : Entry) (q : entryAt s p i ≡ e) (hw : e .word ≡ w) where
@@ -133,7 +133,7 @@ module _ {d : Dims} {s : Caches} (F : Fit d s) (p : ℕ) (lp : p < d .processors
         go (regular x y) z = refl
         go (tentative x y b t) z = refl
         go (normal x y) z =
-            let r = look-norm (d .entries) (home d) (decoded d s .slot p) (decoded d s .line p) w z in
+            let r = normal-seen (d .entries) (home d) (decoded d s .slot p) (decoded d s .line p) w z in
             let e = slot-normal (entryAt s p (r .0)) (sym (slot-at (r .0) (r .1)) ∙ r .2) in
             absurd (found-none s p (d .entries) NORMAL w l (r .0) (r .1) (e .tagged) (e .word))
 
@@ -145,6 +145,6 @@ module _ {d : Dims} {s : Caches} (F : Fit d s) (p : ℕ) (lp : p < d .processors
         go (regular x y) z = refl
         go (normal x y) z = refl
         go (tentative x y b t) z =
-            let r = look-tent (d .entries) (home d) (decoded d s .slot p) (decoded d s .line p) w z in
+            let r = tentative-seen (d .entries) (home d) (decoded d s .slot p) (decoded d s .line p) w z in
             let e = slot-tentative (entryAt s p (r .0)) (sym (slot-at (r .0) (r .1)) ∙ r .2) .0 in
             absurd (found-none s p (d .entries) TENTATIVE w l (r .0) (r .1) (e .tagged) (e .word))

@@ -19,8 +19,8 @@ use Rattle.machine.specs.Refusals.{accepted}
 use Rattle.machine.specs.Sound.{Sound, Held, Copy, Tentative}
 use Rattle.theory.specs.View.{LineState, regular, above, isDirty, has, exclusive, below}
 use Rattle.theory.specs.View
-use Rattle.theory.proofs.OneWord.{below-up}
-use Rattle.theory.proofs.Cache.{filled, is-self, mainOn, backOn, regOn}
+use Rattle.theory.proofs.OneWord.{below-above}
+use Rattle.theory.proofs.Cache.{filled, is-self, mainOn, backOn, regularOn}
 use Rattle.theory.proofs.Settled.{Coherent}
 use Rattle.serial.proofs.Decode.{stateOf, lineOf, decoded, seen}
 use Rattle.serial.proofs.Frame.{LineFits, EntryFits, Fits}
@@ -100,7 +100,7 @@ module _ {d : Dims} {s : Caches} (F : Fit d s) (C : Coherent (d .processors) (se
       record {
         present = rw was;
         owned = λ h. rw was
-            (below-up (stateOf (entryAt s p i .state)) (b .0) (above-of (entryAt s p i) (omega arith) (f .held) h)
+            (below-above (stateOf (entryAt s p i .state)) (b .0) (above-of (entryAt s p i) (omega arith) (f .held) h)
             (rw was at (C .order (entryAt s p i .word) p)));
         checked = λ n. (rw was at (C .equal (entryAt s p i .word) p)) .1 (clean-state (entryAt s p i .state) n);
       }
@@ -188,7 +188,7 @@ module _ {d : Dims} {s : Caches} (F : Fit d s) (C : Coherent (d .processors) (se
       let m = main-on p j g n w (sym e) in
       let full : decoded d s .line p (home d w) ≡ filled (stateOf (lineAt s p i .state)) w (lineAt s p i .«data») =
       line-at F p (f .processor) w ∙ (ap (λ (k : ℕ). lineOf (lineAt s p k)) (f .at-home) ∙ filled-line (lineAt s p i) (f .held)) in
-      true≢false (sym (ap (regOn w) full ∙ is-self w) ∙ F .tidy p .apart w j (g .slot) m)
+      true≢false (sym (ap (regularOn w) full ∙ is-self w) ∙ F .tidy p .apart w j (g .slot) m)
 
   backup-needs : (p i : ℕ) → p < 8 → i < 64 → Held (entryAt s p i) → entryAt s p i .tag ≡ BACKUP → Tentative s p (entryAt s p i .word)
   backup-needs p i lp li h t =

@@ -23,7 +23,7 @@ use Rattle.theory.proofs.Cache.{Slot, Line, vacant, blank, filled, mainOn, look
 use Rattle.theory.proofs.Slots.{look-none}
 use Rattle.theory.proofs.Lines.{lineIs, line-main, look-line}
 use Rattle.theory.proofs.Updates.{AllTidy, LineSet, lined, line-in, line-out}
-use Rattle.theory.specs.Bus.{Freed, empty, reg-out, Unregular, un-reg, re-reg, isRegular}
+use Rattle.theory.specs.Bus.{Freed, empty, regular-freed, Unregular, none-regular, was-regular, isRegular}
 use Rattle.theory.proofs.Serve.{at-still}
 use Rattle.theory.proofs.Refine.{same-refl}
 use Rattle.serial.proofs.Decode.{stateOf, slotOf, lineOf, decoded, seen, read-same}
@@ -119,7 +119,7 @@ evicts {d} {s} F p lp w gone = by (line-fits F p lp w)
         free = look-none (d .entries) (home d) (decoded d s .slot p) (decoded d s .line p) w gone .1
     by (inr f) = record {
       fit = lined-fit F p lp u h (f .at-home) M noEntry none-range (inl refl) tt old free;
-      freed = reg-out u (lined-at F p lp u h (f .at-home) M noEntry none-range (inl refl) tt old free)
+      freed = regular-freed u (lined-at F p lp u h (f .at-home) M noEntry none-range (inl refl) tt old free)
           (look-line (d .entries) (home d) (decoded d s .slot p) (decoded d s .line p) (decoded d s .line p) (F .tidy p) u h (f .at-home)
           (λ g i. refl) full)
           (lined-blank F p lp u h (f .at-home) M noEntry none-range (inl refl) tt old free refl) (back-here (F .frame) e refl (λ x. f .word));
@@ -159,7 +159,7 @@ unlined {d} {s} F p lp w = by (holds (lineAt s p (home d w)) w) refl
         → Unlined d p w s (pick b (counted (writes e) (clearLine s p (home d w))) (counted 0 s) .after)
     by true o = record {
       fit = lined-fit F p lp w (home d w) refl M noEntry none-range (inl refl) tt old free;
-      clears = re-reg (lined-at F p lp w (home d w) refl M noEntry none-range (inl refl) tt old free) (has-regular F p lp w e refl o) out
+      clears = was-regular (lined-at F p lp w (home d w) refl M noEntry none-range (inl refl) tt old free) (has-regular F p lp w e refl o) out
           (back-here (F .frame) e ew (line-word (line-fits F p lp w)));
       none-left = rw out;
     }
@@ -182,4 +182,4 @@ unlined {d} {s} F p lp w = by (holds (lineAt s p (home d w)) w) refl
 
         out : seen d (clearLine s p (home d w)) .copy w p ≡ none
         out = lined-blank F p lp w (home d w) refl M noEntry none-range (inl refl) tt old free refl
-    by false o = let z = no-regular F p lp w e refl o in record { fit = F; clears = un-reg z same-refl; none-left = z }
+    by false o = let z = no-regular F p lp w e refl o in record { fit = F; clears = none-regular z same-refl; none-left = z }

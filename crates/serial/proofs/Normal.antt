@@ -23,7 +23,7 @@ use Rattle.machine.specs.Transact.{openNormal}
 use Rattle.theory.specs.View.{LineState, valid, reserved, dirty, bare, backup, normal, tentative, dried}
 use Rattle.theory.specs.Change.{At}
 use Rattle.theory.proofs.Moves.{at-trans}
-use Rattle.theory.proofs.Cache.{vacant, slotNormal, slotBackup, slotTentative, mainOn, backOn, tentOn, is-self, unbacked, main-tent, not-true}
+use Rattle.theory.proofs.Cache.{vacant, slotNormal, slotBackup, slotTentative, mainOn, backOn, tentativeOn, is-self, unbacked, main-tentative, not-true}
 use Rattle.theory.proofs.Updates.{AllTidy, SlotSet, turned, backs-up}
 use Rattle.theory.specs.Bus.{Begun, with-backup, without}
 use Rattle.serial.specs.Taking.{valueEnd}
@@ -61,8 +61,8 @@ module _ {d : Dims} {s : Caches} (F : Fit d s) (p : ℕ) (lp : p < d .processors
       clash : backOn w (decoded d s .slot p j) ≡ true → ⊥
       clash h =
           let x = F .tidy p .paired w j l h in
-          let q = F .tidy p .mains w i (x .0) li (x .1) (ap (mainOn w) full ∙ is-self w) (main-tent w (decoded d s .slot p (x .0)) (x .2)) in
-          true≢false (sym (subst (λ (z : ℕ). tentOn w (decoded d s .slot p z) ≡ true) (sym q) (x .2)) ∙ ap (tentOn w) full)
+          let q = F .tidy p .mains w i (x .0) li (x .1) (ap (mainOn w) full ∙ is-self w) (main-tentative w (decoded d s .slot p (x .0)) (x .2)) in
+          true≢false (sym (subst (λ (z : ℕ). tentativeOn w (decoded d s .slot p z) ≡ true) (sym q) (x .2)) ∙ ap (tentativeOn w) full)
 
   -- it becomes tentative
   module _ {m : List ℕ} (M : Memory d s w m) (x v : ℕ) (lx : x < 4) (nx : x ≢ INVALID) (lv : v < valueEnd) where

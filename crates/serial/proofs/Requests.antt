@@ -19,7 +19,7 @@ use Rattle.machine.specs.Own.{home, holds, hasLive, liveEntry}
 use Rattle.machine.specs.Bus.{writtenBack, snoopLine, snoopEntry, snoopOne, snoop, refuses, rollOthers, plainRequest}
 use Rattle.theory.specs.View.{Copy, none, regular, normal, tentative}
 use Rattle.theory.proofs.Cache.{vacant, blank, mainOn, is-self}
-use Rattle.theory.proofs.Looks.{look-norm, look-tent, look-empty}
+use Rattle.theory.proofs.Looks.{normal-seen, tentative-seen, look-empty}
 use Rattle.theory.specs.Bus.{Each, Snooped, own, other, Kind, reading, owning, snoops, supplied, Plainly, Granted}
 use Rattle.theory.specs.Bus
 use Rattle.theory.proofs.Refine.{same-refl}
@@ -113,11 +113,11 @@ module _ {d : Dims} {s : Caches} (F : Fit d s) (q : ℕ) (lq : q < d .processors
           go none z n = refl
           go (regular a b) z n = absurd (true≢false n)
           go (normal a b) z n =
-              let r = look-norm (d .entries) (home d) (decoded d s .slot q) (decoded d s .line q) w z in
+              let r = normal-seen (d .entries) (home d) (decoded d s .slot q) (decoded d s .line q) w z in
               let y = slot-normal (entryAt s q (r .0)) (sym (slot-at F q lq (r .0) (r .1)) ∙ r .2) in
               absurd (live-none s q (d .entries) w l (r .0) (r .1) (inl (y .tagged)) (y .word))
           go (tentative a b x y) z n =
-              let r = look-tent (d .entries) (home d) (decoded d s .slot q) (decoded d s .line q) w z in
+              let r = tentative-seen (d .entries) (home d) (decoded d s .slot q) (decoded d s .line q) w z in
               let y = slot-tentative (entryAt s q (r .0)) (sym (slot-at F q lq (r .0) (r .1)) ∙ r .2) .0 in
               absurd (live-none s q (d .entries) w l (r .0) (r .1) (inr (y .tagged)) (y .word))
 

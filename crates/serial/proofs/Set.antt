@@ -96,9 +96,9 @@ module _ {d : Dims} {s : Caches} (F : Frame d s) {u : ℕ} {m : List ℕ} (M : M
       else = λ j n. else p j (inr n);
       slots = λ q j n l. else q j (inl n);
       lines = λ q h. refl;
-      mems = M .else;
-      acts = λ q. refl;
-      stas = λ q. refl;
+      memories = M .else;
+      actives = λ q. refl;
+      statuses = λ q. refl;
     }
       where
         else : (q j : ℕ) → (q ≢ p) ⊎ (j ≢ i) → decoded d (entryOn s m p i e) .slot q j ≡ decoded d s .slot q j
@@ -126,9 +126,9 @@ module _ {d : Dims} {s : Caches} (F : Frame d s) {u : ℕ} {m : List ℕ} (M : M
       else = λ j n. else p j (inr n);
       lines = λ q j n. else q j (inl n);
       slots = λ q j. refl;
-      mems = M .else;
-      acts = λ q. refl;
-      stas = λ q. refl;
+      memories = M .else;
+      actives = λ q. refl;
+      statuses = λ q. refl;
     }
       where
         else : (q j : ℕ) → (q ≢ p) ⊎ (j ≢ i) → decoded d (lineOn s m p i e) .line q j ≡ decoded d s .line q j

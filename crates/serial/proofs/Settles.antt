@@ -17,7 +17,7 @@ use Rattle.machine.specs.Own.{home, holds}
 use Rattle.machine.specs.Settled.{isSettling, hasSettling, settlingEntry, settles, settler, settledIn}
 use Rattle.machine.specs.Settled
 use Rattle.theory.specs.View.{bare, backup, Copy, none, regular, normal, tentative, isDirty, owns}
-use Rattle.theory.proofs.Looks.{look-norm}
+use Rattle.theory.proofs.Looks.{normal-seen}
 use Rattle.theory.proofs.Agree.{Agree}
 use Rattle.theory.proofs.Settled.{baseData, owns-data}
 use Rattle.theory.specs.Bus.{isRegular}
@@ -130,7 +130,7 @@ module _ {d : Dims} {s : Caches} (F : Fit d s) (q : ℕ) (lq : q < d .processors
           go none e r = refl
           go (regular x y) e r = absurd (true≢false r)
           go (normal x y) e r =
-              let f = look-norm (d .entries) (home d) (decoded d s .slot q) (decoded d s .line q) w e in
+              let f = normal-seen (d .entries) (home d) (decoded d s .slot q) (decoded d s .line q) w e in
               let z = slot-normal (entryAt s q (f .0)) (sym (slot-at F q lq (f .0) (f .1)) ∙ f .2) in
               off (isDirty x)
               (λ o. entry-off (f .0) (f .1) (inl (z .tagged)) (z .word) (on-dirty (entryAt s q (f .0) .state) (ap isDirty (z .state) ∙ o)))

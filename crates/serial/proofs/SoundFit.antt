@@ -15,7 +15,7 @@ use Rattle.machine.specs.declared.Dims.{Dims}
 use Rattle.machine.specs.State.{Caches, lineAt, entryAt, wordAt}
 use Rattle.machine.specs.Own.{home}
 use Rattle.machine.specs.Sound.{Sound, Copy}
-use Rattle.theory.proofs.Cache.{vacant, blank, filled, is-self, is-true, mainOn, backOn, tentOn, regOn, Tidy, not-true}
+use Rattle.theory.proofs.Cache.{vacant, blank, filled, is-self, is-true, mainOn, backOn, tentativeOn, regularOn, Tidy, not-true}
 use Rattle.theory.proofs.Looks.{tidy-empty}
 use Rattle.serial.specs.Taking.{valueEnd}
 use Rattle.serial.proofs.Decode.{stateOf, slotBy, slotOf, lineOf, decoded, read-at, read-out}
@@ -44,10 +44,10 @@ backup-says w e h = by (eqb (e .tag) NORMAL) (eqb (e .tag) BACKUP) (eqb (e .tag)
     by false false true hb h = absurd (false≢true h)
     by false false false hb h = absurd (false≢true h)
 
-pub line-says : (w : ℕ) (e : Entry) → regOn w (lineOf e) ≡ true → (e .state ≢ INVALID) × (e .word ≡ w)
+pub line-says : (w : ℕ) (e : Entry) → regularOn w (lineOf e) ≡ true → (e .state ≢ INVALID) × (e .word ≡ w)
 line-says w e h = by (eqb (e .state) INVALID) refl h
   where
-    by : (z : Bool) → eqb (e .state) INVALID ≡ z → regOn w (pick z blank (filled (stateOf (e .state)) (e .word) (e .«data»))) ≡ true
+    by : (z : Bool) → eqb (e .state) INVALID ≡ z → regularOn w (pick z blank (filled (stateOf (e .state)) (e .word) (e .«data»))) ≡ true
         → (e .state ≢ INVALID) × (e .word ≡ w)
     by true hz h = absurd (false≢true h)
     by false hz h = (eqb-false (e .state) INVALID hz, is-true (e .word) w h)
@@ -146,7 +146,7 @@ module _ {d : Dims} {s : Caches} (Z : Sound d s) (values : (w : ℕ) → wordAt 
       paired = paired;
     }
       where
-        apart : (w i : ℕ) → i < d .entries → mainOn w (decoded d s .slot p i) ≡ true → regOn w (decoded d s .line p (home d w)) ≡ false
+        apart : (w i : ℕ) → i < d .entries → mainOn w (decoded d s .slot p i) ≡ true → regularOn w (decoded d s .line p (home d w)) ≡ false
         apart w i l h = not-true _ (λ r.
             let x = main-of w i l h in
             let q = read-at lineOf blank (d .processors) (d .lines) (s .lines) p (home d w) lp (home-in size w) in
@@ -154,7 +154,7 @@ module _ {d : Dims} {s : Caches} (Z : Sound d s) (values : (w : ℕ) → wordAt 
             Z .regular-or-other p (home d w) i lp8 (omega (arith, home-in size w, size .lines)) (li64 i l) (y .0) (x .0) (x .1) (y .1 ∙ sym (x .2)))
 
         paired : (w j : ℕ) → j < d .entries → backOn w (decoded d s .slot p j) ≡ true → (i : ℕ) × (i < d .entries)
-            × (tentOn w (decoded d s .slot p i) ≡ true)
+            × (tentativeOn w (decoded d s .slot p i) ≡ true)
         paired w j l h =
             let x = backup-says w (entryAt s p j) (rw (slot-at j l) at h) in
             let t = Z .backup-needs p j lp8 (li64 j l) (held p j BACKUP lp8 (li64 j l) (x .0) (λ z. omega arith)) (x .0) in

@@ -27,7 +27,7 @@ use Rattle.theory.proofs.Slots.{look-none}
 use Rattle.theory.proofs.Lines.{lineIs, line-main}
 use Rattle.theory.proofs.Updates.{AllTidy, normal-gone}
 use Rattle.theory.proofs.Agree.{rolledBack-tentative}
-use Rattle.theory.specs.Bus.{store-hit, store-through, store-miss, Plainly, owning, isNormal, Unheld, un-tent, re-tent, Unnormal, un-norm, re-norm}
+use Rattle.theory.specs.Bus.{store-hit, store-through, store-miss, Plainly, owning, isNormal, Unheld, none-held, was-held, Unnormal, none-normal, was-normal}
 use Rattle.theory.proofs.Refine.{same-refl, freed-none}
 use Rattle.serial.specs.Shown.{byStore}
 use Rattle.serial.specs.Taking.{valueEnd}
@@ -62,11 +62,11 @@ unheld {d} {s} F p lp w = by (ltb i (d .entries)) refl
         (found-tag s p (d .entries) TENTATIVE w l) in
         record {
           fit = rollback-fit F p lp;
-          gives-up = re-tent (rw c) U;
+          gives-up = was-held (rw c) U;
           not-tentative =
               rw (U .cache .here w) (rolledBack-tentative (seen d s .copy w p));
         }
-    by false h = let z = no-tentative F p lp w (ltb-false i (d .entries) h) in record { fit = F; gives-up = un-tent z same-refl; not-tentative = z }
+    by false h = let z = no-tentative F p lp w (ltb-false i (d .entries) h) in record { fit = F; gives-up = none-held z same-refl; not-tentative = z }
 
 -- the NORMAL copy is given up
 pub record Bared (d : Dims) (p w : ℕ) (s s′ : Caches) : Type 0 where
@@ -89,7 +89,7 @@ bared {d} {s} F p lp w nt = by (ltb i (d .entries)) refl
     by : (b : Bool) → ltb i (d .entries) ≡ b → Bared d p w s (pick b (counted (writes e) (clearEntry s p i)) (counted 0 s) .after)
     by true h = record {
       fit = entry-fit (F .frame) M p i lp noEntry none-range l (inl refl) (g .0);
-      clears = re-norm (g .1) (g .2) (g .3) (back-here (F .frame) e ew (fits-word (entry-fits F p lp i l)));
+      clears = was-normal (g .1) (g .2) (g .3) (back-here (F .frame) e ew (fits-word (entry-fits F p lp i l)));
       not-normal = rw (g .3);
       not-tentative = rw (g .3);
     }
@@ -110,7 +110,7 @@ bared {d} {s} F p lp w nt = by (ltb i (d .entries)) refl
             (slot-normal-at F p lp w i l e refl ew (found-tag s p (d .entries) NORMAL w l))
     by false h =
         let z = no-normal F p lp w (ltb-false i (d .entries) h) in
-        record { fit = F; clears = un-norm z same-refl; not-normal = z; not-tentative = nt }
+        record { fit = F; clears = none-normal z same-refl; not-normal = z; not-tentative = nt }
 
 -- the store itself, from a state in which p has a regular copy or none
 module _ {d : Dims} (p : ℕ) (lp : p < d .processors) (w : ℕ) (lw : w < d .words) (v : ℕ) (lv : v < valueEnd) {s : Caches} (F : Fit d s) {S S₁ : View}

@@ -13,8 +13,8 @@ use Rattle.machine.specs.State.{Caches, lineAt, entryAt}
 use Rattle.machine.specs.Own.{home}
 use Rattle.machine.specs.Sound
 use Rattle.theory.specs.View.{LineState, valid, Back, backup, Copy, none, regular, normal, tentative, above, below, has, exclusive}
-use Rattle.theory.proofs.Cache.{Slot, vacant, slotNormal, slotBackup, slotTentative, slotBack, tentOn, regOn, is-self, is-true, Backs, backed, unbacked}
-use Rattle.theory.proofs.Looks.{look-norm, look-tent, look-reg}
+use Rattle.theory.proofs.Cache.{Slot, vacant, slotNormal, slotBackup, slotTentative, slotBack, tentativeOn, regularOn, is-self, is-true, Backs, backed, unbacked}
+use Rattle.theory.proofs.Looks.{normal-seen, tentative-seen, regular-seen}
 use Rattle.theory.proofs.Slots.{look-tentative}
 use Rattle.serial.proofs.Decode.{stateOf, decoded, seen}
 use Rattle.serial.proofs.Set.{Fit}
@@ -66,7 +66,7 @@ module _ {d : Dims} {s : Caches} (F : Fit d s) (p : ℕ) (lp : p < d .processors
   main-entry none e h = absurd (false≢true h)
   main-entry (regular x y) e h =
       let r = line-says w (lineAt s p (home d w))
-      (ap (regOn w) (sym (line-at F p lp w)) ∙ look-reg (d .entries) (home d) (decoded d s .slot p) (decoded d s .line p) w e) in
+      (ap (regularOn w) (sym (line-at F p lp w)) ∙ regular-seen (d .entries) (home d) (decoded d s .slot p) (decoded d s .line p) w e) in
       let o = both-true (not (eqb (lineAt s p (home d w) .state) INVALID)) (eqb (lineAt s p (home d w) .word) w)
       (ap not (ne-eqb (lineAt s p (home d w) .state) INVALID (r .0))) (eq-eqb (lineAt s p (home d w) .word) w (r .1)) in
       let c = sym (has-regular F p lp w (lineAt s p (home d w)) refl o) ∙ e in
@@ -79,7 +79,7 @@ module _ {d : Dims} {s : Caches} (F : Fit d s) (p : ℕ) (lp : p < d .processors
         value = cc;
       }
   main-entry (normal x y) e h =
-      let r = look-norm (d .entries) (home d) (decoded d s .slot p) (decoded d s .line p) w e in
+      let r = normal-seen (d .entries) (home d) (decoded d s .slot p) (decoded d s .line p) w e in
       let z = slot-normal (entryAt s p (r .0)) (sym (slot-at F p lp (r .0) (r .1)) ∙ r .2) in
       record {
         copy = entryAt s p (r .0);
@@ -90,7 +90,7 @@ module _ {d : Dims} {s : Caches} (F : Fit d s) (p : ℕ) (lp : p < d .processors
         value = z .value;
       }
   main-entry (tentative x y b t) e h =
-      let r = look-tent (d .entries) (home d) (decoded d s .slot p) (decoded d s .line p) w e in
+      let r = tentative-seen (d .entries) (home d) (decoded d s .slot p) (decoded d s .line p) w e in
       let z = slot-tentative (entryAt s p (r .0)) (sym (slot-at F p lp (r .0) (r .1)) ∙ r .2) .0 in
       record {
         copy = entryAt s p (r .0);
@@ -105,12 +105,12 @@ module _ {d : Dims} {s : Caches} (F : Fit d s) (p : ℕ) (lp : p < d .processors
   pub tentative-entry : {x : LineState} {y : ℕ} {b : Back} {t : Bool} → seen d s .copy w p ≡ tentative x y b t
       → (i : ℕ) × (i < d .entries) × Is TENTATIVE (entryAt s p i) x w y × (t ≡ eqb (entryAt s p i .state) DIRTY)
   tentative-entry e =
-      let r = look-tent (d .entries) (home d) (decoded d s .slot p) (decoded d s .line p) w e in
+      let r = tentative-seen (d .entries) (home d) (decoded d s .slot p) (decoded d s .line p) w e in
       let z = slot-tentative (entryAt s p (r .0)) (sym (slot-at F p lp (r .0) (r .1)) ∙ r .2) in
       (r .0, r .1, z .0, z .1)
 
   pub behind : {x : LineState} {y : ℕ} {r : LineState} {v : ℕ} {t : Bool} → seen d s .copy w p ≡ tentative x y (backup r v) t → Behind d s p w r v
-  behind {r = r} {v = v} e = by (backup r v) refl (look-tent (d .entries) (home d) (decoded d s .slot p) (decoded d s .line p) w e .3)
+  behind {r = r} {v = v} e = by (backup r v) refl (tentative-seen (d .entries) (home d) (decoded d s .slot p) (decoded d s .line p) w e .3)
     where
       by : (b : Back) → b ≡ backup r v → Backs (d .entries) (home d) (decoded d s .slot p) (decoded d s .line p) w b → Behind d s p w r v
       by b z (backed j l h q) =
@@ -130,12 +130,12 @@ module _ {d : Dims} {s : Caches} (F : Fit d s) (p : ℕ) (lp : p < d .processors
           slot-at F p lp j l ∙
           (backup-slot (entryAt s p j) ht ∙ ap (λ (u : ℕ). slotBackup (stateOf (entryAt s p j .state)) u (entryAt s p j .«data»)) hw)
 
-      from : (i : ℕ) × (i < d .entries) × (tentOn w (decoded d s .slot p i) ≡ true)
+      from : (i : ℕ) × (i < d .entries) × (tentativeOn w (decoded d s .slot p i) ≡ true)
           → (x : LineState) × (y : ℕ) × (t : Bool)
           × (seen d s .copy w p ≡ tentative x y (backup (stateOf (entryAt s p j .state)) (entryAt s p j .«data»)) t)
       from (i, li, h) = go (decoded d s .slot p i) refl h
         where
-          go : (z : Slot) → decoded d s .slot p i ≡ z → tentOn w z ≡ true
+          go : (z : Slot) → decoded d s .slot p i ≡ z → tentativeOn w z ≡ true
               → (x : LineState) × (y : ℕ) × (t : Bool)
               × (seen d s .copy w p ≡ tentative x y (backup (stateOf (entryAt s p j .state)) (entryAt s p j .«data»)) t)
           go vacant e h = absurd (false≢true h)

@@ -5,7 +5,7 @@ use mathlib.Core.Bool.{true, false, true≢false}
 use Prim.Native.Nat.{ℕ}
 use native.Mathlib.Decide.{ℕ-discrete}
 use Rattle.theory.specs.View.{bare, backup, Copy, none, regular, normal, tentative, isTentative, ownValue, rolledBack, committed, Word, View}
-use Rattle.theory.proofs.Move.{Move, moved, drop-reg, drop-norm, drop-back, lower-reg, lower-norm, begin-kept, begin-bare, fill-reg, fill-tent, fill-kept, own-reg, own-tent, own-kept, upgrade}
+use Rattle.theory.proofs.Move.{Move, moved, drop-regular, drop-normal, drop-backup, lower-regular, lower-normal, begin-backed, begin-bare, fill-regular, fill-tentative, fill-backed, own-regular, own-tentative, own-backed, upgrade}
 use Rattle.theory.proofs.OneWord.{Low, Alone, rolled, committedWord}
 use Rattle.theory.specs.Change.{Live, At, OnlyProcessor, same}
 use Rattle.theory.proofs.Moves.{Silent, still, move, rollback, wake}
@@ -45,28 +45,28 @@ agree-at {S} {S′} {M} {M′} p w A at W e l = record { words = ws; live = lv }
         go (no n) d = A .live u q (rw (at .word-else u n q) at h)
 
 -- a tentative copy comes only from one, or in a live transaction
-pub mv-live : {live low alone : Type 0} {m m′ : ℕ} {k k′ : Copy} → Move live low alone m k m′ k′ → (isTentative k ≡ true → live)
+pub move-live : {live low alone : Type 0} {m m′ : ℕ} {k k′ : Copy} → Move live low alone m k m′ k′ → (isTentative k ≡ true → live)
     → isTentative k′ ≡ true → live
-mv-live drop-reg g h = g h
-mv-live drop-norm g h = g h
-mv-live drop-back g h = g h
-mv-live lower-reg g h = g h
-mv-live lower-norm g h = g h
-mv-live (begin-kept a i) g h = a
-mv-live (begin-bare a) g h = a
-mv-live (fill-reg l) g h = g h
-mv-live (fill-tent a l) g h = a
-mv-live (fill-kept a l) g h = a
-mv-live (own-reg z) g h = g h
-mv-live (own-tent a z) g h = a
-mv-live (own-kept a z) g h = a
-mv-live (upgrade z) g h = g h
+move-live drop-regular g h = g h
+move-live drop-normal g h = g h
+move-live drop-backup g h = g h
+move-live lower-regular g h = g h
+move-live lower-normal g h = g h
+move-live (begin-backed a i) g h = a
+move-live (begin-bare a) g h = a
+move-live (fill-regular l) g h = g h
+move-live (fill-tentative a l) g h = a
+move-live (fill-backed a l) g h = a
+move-live (own-regular z) g h = g h
+move-live (own-tentative a z) g h = a
+move-live (own-backed a z) g h = a
+move-live (upgrade z) g h = g h
 
 pub agree-move : {S S′ : View} {M : ℕ → ℕ} (p w : ℕ) {k k′ : Copy} {m m′ : ℕ} → Agree S M → At p w S S′
     → S .memory w ≡ m → S′ .memory w ≡ m′ → S .copy w p ≡ k → S′ .copy w p ≡ k′
     → Move (Live S p) (Low (S .copy w) p) (Alone (S .copy w) p) m k m′ k′ → Agree S′ M
 agree-move {S} {S′} {M} p w {k} {k′} {m} {m′} A at em em′ was here v =
-    agree-at p w A at (rw em′ (moved W p was here (at .proc-else) v)) (λ u n. refl) (λ h. mv-live v (λ t. A .live w p (rw was t)) (rw here at h))
+    agree-at p w A at (rw em′ (moved W p was here (at .proc-else) v)) (λ u n. refl) (λ h. move-live v (λ t. A .live w p (rw was t)) (rw here at h))
   where
     W : Word m (S .copy w) (M w)
     W = rw em at (A .words w)

@@ -4,7 +4,7 @@ use mathlib.Core.Logic.{_⊎_, inl, inr}
 use mathlib.Core.Bool.{true, false, true≢false, false≢true}
 use Prim.Native.Nat.{ℕ, _<_}
 use Rattle.theory.specs.View.{Back, bare, Copy, rolledBack, committed}
-use Rattle.theory.proofs.Cache.{Backs, Has, Line, Slot, Tidy, backOn, backed, blank, filled, in-line, in-slot, look, look-is, looks, main-tent, mainOn, not-true, nowhere, regCopy, regOn, slotBackup, slotCopy, slotNormal, slotTentative, tentOn, tidy-shrink, unbacked, vacant}
+use Rattle.theory.proofs.Cache.{Backs, Has, Line, Slot, Tidy, backOn, backed, blank, filled, in-line, in-slot, look, look-is, looks, main-tentative, mainOn, not-true, nowhere, lineCopy, regularOn, slotBackup, slotCopy, slotNormal, slotTentative, tentativeOn, tidy-shrink, unbacked, vacant}
 
 -- a slot's rollback and its commit
 abbrev pub slotRollback : Slot → Slot
@@ -20,107 +20,108 @@ slotCommit (slotBackup s u d) = vacant
 slotCommit (slotTentative s u d t) = slotNormal s u d
 
 -- a rolled slot's main claim was a NORMAL entry's, or a backup's
-roll-main : (w : ℕ) (x : Slot) → mainOn w (slotRollback x) ≡ true → ((mainOn w x ≡ true) × (tentOn w x ≡ false)) ⊎ (backOn w x ≡ true)
-roll-main w vacant h = absurd (false≢true h)
-roll-main w (slotNormal s u d) h = inl (h, refl)
-roll-main w (slotBackup s u d) h = inr h
-roll-main w (slotTentative s u d t) h = absurd (false≢true h)
+rollback-main : (w : ℕ) (x : Slot) → mainOn w (slotRollback x) ≡ true → ((mainOn w x ≡ true) × (tentativeOn w x ≡ false)) ⊎ (backOn w x ≡ true)
+rollback-main w vacant h = absurd (false≢true h)
+rollback-main w (slotNormal s u d) h = inl (h, refl)
+rollback-main w (slotBackup s u d) h = inr h
+rollback-main w (slotTentative s u d t) h = absurd (false≢true h)
 
-roll-backs : (w : ℕ) (x : Slot) → backOn w (slotRollback x) ≡ false
-roll-backs w vacant = refl
-roll-backs w (slotNormal s u d) = refl
-roll-backs w (slotBackup s u d) = refl
-roll-backs w (slotTentative s u d t) = refl
+rollback-backs : (w : ℕ) (x : Slot) → backOn w (slotRollback x) ≡ false
+rollback-backs w vacant = refl
+rollback-backs w (slotNormal s u d) = refl
+rollback-backs w (slotBackup s u d) = refl
+rollback-backs w (slotTentative s u d t) = refl
 
-settle-main : (w : ℕ) (x : Slot) → mainOn w (slotCommit x) ≡ mainOn w x
-settle-main w vacant = refl
-settle-main w (slotNormal s u d) = refl
-settle-main w (slotBackup s u d) = refl
-settle-main w (slotTentative s u d t) = refl
+commit-main : (w : ℕ) (x : Slot) → mainOn w (slotCommit x) ≡ mainOn w x
+commit-main w vacant = refl
+commit-main w (slotNormal s u d) = refl
+commit-main w (slotBackup s u d) = refl
+commit-main w (slotTentative s u d t) = refl
 
-settle-backs : (w : ℕ) (x : Slot) → backOn w (slotCommit x) ≡ false
-settle-backs w vacant = refl
-settle-backs w (slotNormal s u d) = refl
-settle-backs w (slotBackup s u d) = refl
-settle-backs w (slotTentative s u d t) = refl
+commit-backs : (w : ℕ) (x : Slot) → backOn w (slotCommit x) ≡ false
+commit-backs w vacant = refl
+commit-backs w (slotNormal s u d) = refl
+commit-backs w (slotBackup s u d) = refl
+commit-backs w (slotTentative s u d t) = refl
 
-settle-copy : (w : ℕ) (x : Slot) (b : Back) → mainOn w x ≡ true → slotCopy (slotCommit x) bare ≡ committed (slotCopy x b)
-settle-copy w vacant b h = refl
-settle-copy w (slotNormal s u d) b h = refl
-settle-copy w (slotBackup s u d) b h = refl
-settle-copy w (slotTentative s u d t) b h = refl
+commit-copy : (w : ℕ) (x : Slot) (b : Back) → mainOn w x ≡ true → slotCopy (slotCommit x) bare ≡ committed (slotCopy x b)
+commit-copy w vacant b h = refl
+commit-copy w (slotNormal s u d) b h = refl
+commit-copy w (slotBackup s u d) b h = refl
+commit-copy w (slotTentative s u d t) b h = refl
 
 module _ (E : ℕ) (home : ℕ → ℕ) (slot slot′ : ℕ → Slot) (line line′ : ℕ → Line) (T : Tidy E home slot line)
     (sameLine : (i : ℕ) → line′ i ≡ line i) where
   module _ (all : (i : ℕ) → i < E → slot′ i ≡ slotCommit (slot i)) where
-    pub tidy-settle : Tidy E home slot′ line′
-    tidy-settle = tidy-shrink E home slot slot′ line line′ T
-        (λ i w l h. sym (settle-main w (slot i)) ∙ rw (all i l) at h)
-        (λ i w l h. absurd (true≢false (sym (rw (all i l) at h) ∙ settle-backs w (slot i))))
-        (λ i j w l l′ h t. absurd (true≢false (sym (rw (all j l′) at h) ∙ settle-backs w (slot j))))
+    pub tidy-committed : Tidy E home slot′ line′
+    tidy-committed = tidy-shrink E home slot slot′ line line′ T
+        (λ i w l h. sym (commit-main w (slot i)) ∙ rw (all i l) at h)
+        (λ i w l h. absurd (true≢false (sym (rw (all i l) at h) ∙ commit-backs w (slot i))))
+        (λ i j w l l′ h t. absurd (true≢false (sym (rw (all j l′) at h) ∙ commit-backs w (slot j))))
         (λ w h. rw (sameLine (home w)) h)
 
-    settle-has : (w : ℕ) (k : Copy) → Has E home slot line w k → Has E home slot′ line′ w (committed k)
-    settle-has w k (in-line h e) = in-line {k = committed k} (rw (sameLine (home w)) h) (rw (sameLine (home w), ← e) (reg-settle (line (home w))))
+    committed-has : (w : ℕ) (k : Copy) → Has E home slot line w k → Has E home slot′ line′ w (committed k)
+    committed-has w k (in-line h e) =
+        in-line {k = committed k} (rw (sameLine (home w)) h) (rw (sameLine (home w), ← e) (line-committed (line (home w))))
       where
-        reg-settle : (x : Line) → regCopy x ≡ committed (regCopy x)
-        reg-settle blank = refl
-        reg-settle (filled s u d) = refl
-    settle-has w k (in-slot {b = b} i l r m bk e) =
-        in-slot {k = committed k} {b = bare} i l (rw (sameLine (home w)) r) (rw (all i l) (settle-main w (slot i) ∙ m))
-        (unbacked (λ j l′. rw (all j l′) (settle-backs w (slot j))) refl)
-        (rw (all i l, ← e) (settle-copy w (slot i) b m))
-    settle-has w k (nowhere r g y) =
-        nowhere {k = committed k} (rw (sameLine (home w)) r) (λ i l. rw (all i l) (settle-main w (slot i) ∙ g i l)) (ap committed y)
+        line-committed : (x : Line) → lineCopy x ≡ committed (lineCopy x)
+        line-committed blank = refl
+        line-committed (filled s u d) = refl
+    committed-has w k (in-slot {b = b} i l r m bk e) =
+        in-slot {k = committed k} {b = bare} i l (rw (sameLine (home w)) r) (rw (all i l) (commit-main w (slot i) ∙ m))
+        (unbacked (λ j l′. rw (all j l′) (commit-backs w (slot j))) refl)
+        (rw (all i l, ← e) (commit-copy w (slot i) b m))
+    committed-has w k (nowhere r g y) =
+        nowhere {k = committed k} (rw (sameLine (home w)) r) (λ i l. rw (all i l) (commit-main w (slot i) ∙ g i l)) (ap committed y)
 
-    pub look-settle : (w : ℕ) → look E home slot′ line′ w ≡ committed (look E home slot line w)
-    look-settle w = looks E home slot′ line′ tidy-settle w _ (settle-has w _ (look-is E home slot line w))
+    pub look-committed : (w : ℕ) → look E home slot′ line′ w ≡ committed (look E home slot line w)
+    look-committed w = looks E home slot′ line′ tidy-committed w _ (committed-has w _ (look-is E home slot line w))
 
   module _ (all : (i : ℕ) → i < E → slot′ i ≡ slotRollback (slot i)) where
     -- where a backup is, no rolled NORMAL entry is
-    roll-clash : (w i j : ℕ) → i < E → j < E → mainOn w (slot i) ≡ true → tentOn w (slot i) ≡ false → backOn w (slot j) ≡ true → ⊥
-    roll-clash w i j l l′ h z b =
+    rolled-clash : (w i j : ℕ) → i < E → j < E → mainOn w (slot i) ≡ true → tentativeOn w (slot i) ≡ false → backOn w (slot j) ≡ true → ⊥
+    rolled-clash w i j l l′ h z b =
         let x = T .paired w j l′ b in
-        true≢false (cc (T .mains w i (x .0) l (x .1) h (main-tent w (slot (x .0)) (x .2)), x .2))
+        true≢false (cc (T .mains w i (x .0) l (x .1) h (main-tentative w (slot (x .0)) (x .2)), x .2))
 
-    pub tidy-roll : Tidy E home slot′ line′
-    tidy-roll = record {
+    pub tidy-rolled : Tidy E home slot′ line′
+    tidy-rolled = record {
       mains = ms;
-      backs = λ w i j l l′ h h′. absurd (true≢false (sym (rw (all i l) at h) ∙ roll-backs w (slot i)));
+      backs = λ w i j l l′ h h′. absurd (true≢false (sym (rw (all i l) at h) ∙ rollback-backs w (slot i)));
       apart = ap′;
-      paired = λ w j l h. absurd (true≢false (sym (rw (all j l) at h) ∙ roll-backs w (slot j)));
+      paired = λ w j l h. absurd (true≢false (sym (rw (all j l) at h) ∙ rollback-backs w (slot j)));
     }
       where
         ms : (w i j : ℕ) → i < E → j < E → mainOn w (slot′ i) ≡ true → mainOn w (slot′ j) ≡ true → i ≡ j
-        ms w i j l l′ h h′ = go (roll-main w (slot i) (rw (all i l) at h)) (roll-main w (slot j) (rw (all j l′) at h′))
+        ms w i j l l′ h h′ = go (rollback-main w (slot i) (rw (all i l) at h)) (rollback-main w (slot j) (rw (all j l′) at h′))
           where
-            go : ((mainOn w (slot i) ≡ true) × (tentOn w (slot i) ≡ false)) ⊎ (backOn w (slot i) ≡ true)
-                → ((mainOn w (slot j) ≡ true) × (tentOn w (slot j) ≡ false)) ⊎ (backOn w (slot j) ≡ true) → i ≡ j
+            go : ((mainOn w (slot i) ≡ true) × (tentativeOn w (slot i) ≡ false)) ⊎ (backOn w (slot i) ≡ true)
+                → ((mainOn w (slot j) ≡ true) × (tentativeOn w (slot j) ≡ false)) ⊎ (backOn w (slot j) ≡ true) → i ≡ j
             go (inl a) (inl b) = T .mains w i j l l′ (a .0) (b .0)
-            go (inl a) (inr b) = absurd (roll-clash w i j l l′ (a .0) (a .1) b)
-            go (inr a) (inl b) = absurd (roll-clash w j i l′ l (b .0) (b .1) a)
+            go (inl a) (inr b) = absurd (rolled-clash w i j l l′ (a .0) (a .1) b)
+            go (inr a) (inl b) = absurd (rolled-clash w j i l′ l (b .0) (b .1) a)
             go (inr a) (inr b) = T .backs w i j l l′ a b
 
-        ap′ : (w i : ℕ) → i < E → mainOn w (slot′ i) ≡ true → regOn w (line′ (home w)) ≡ false
-        ap′ w i l h = rw (sameLine (home w)) (go (roll-main w (slot i) (rw (all i l) at h)))
+        ap′ : (w i : ℕ) → i < E → mainOn w (slot′ i) ≡ true → regularOn w (line′ (home w)) ≡ false
+        ap′ w i l h = rw (sameLine (home w)) (go (rollback-main w (slot i) (rw (all i l) at h)))
           where
-            go : ((mainOn w (slot i) ≡ true) × (tentOn w (slot i) ≡ false)) ⊎ (backOn w (slot i) ≡ true) → regOn w (line (home w)) ≡ false
+            go : ((mainOn w (slot i) ≡ true) × (tentativeOn w (slot i) ≡ false)) ⊎ (backOn w (slot i) ≡ true) → regularOn w (line (home w)) ≡ false
             go (inl a) = T .apart w i l (a .0)
-            go (inr b) = let x = T .paired w i l b in T .apart w (x .0) (x .1) (main-tent w (slot (x .0)) (x .2))
+            go (inr b) = let x = T .paired w i l b in T .apart w (x .0) (x .1) (main-tentative w (slot (x .0)) (x .2))
 
-    roll-has : (w : ℕ) (k : Copy) → Has E home slot line w k → Has E home slot′ line′ w (rolledBack k)
-    roll-has w k (in-line h e) = in-line {k = rolledBack k} (rw (sameLine (home w)) h) (rw (sameLine (home w), ← e) (reg-roll (line (home w))))
+    rolled-has : (w : ℕ) (k : Copy) → Has E home slot line w k → Has E home slot′ line′ w (rolledBack k)
+    rolled-has w k (in-line h e) = in-line {k = rolledBack k} (rw (sameLine (home w)) h) (rw (sameLine (home w), ← e) (line-rolled (line (home w))))
       where
-        reg-roll : (x : Line) → regCopy x ≡ rolledBack (regCopy x)
-        reg-roll blank = refl
-        reg-roll (filled s u d) = refl
-    roll-has w k (in-slot {b = b} i l r m bk e) = go (slot i) refl bk
+        line-rolled : (x : Line) → lineCopy x ≡ rolledBack (lineCopy x)
+        line-rolled blank = refl
+        line-rolled (filled s u d) = refl
+    rolled-has w k (in-slot {b = b} i l r m bk e) = go (slot i) refl bk
       where
-        r′ : regOn w (line′ (home w)) ≡ false
+        r′ : regularOn w (line′ (home w)) ≡ false
         r′ = rw (sameLine (home w)) r
 
         ub : (j : ℕ) → j < E → backOn w (slot′ j) ≡ false
-        ub j l′ = rw (all j l′) (roll-backs w (slot j))
+        ub j l′ = rw (all j l′) (rollback-backs w (slot j))
 
         go : (x : Slot) → slot i ≡ x → Backs E home slot line w b → Has E home slot′ line′ w (rolledBack k)
         go vacant y bk = absurd (false≢true (rw y at m))
@@ -138,19 +139,19 @@ module _ (E : ℕ) (home : ℕ → ℕ) (slot slot′ : ℕ → Slot) (line line
         go (slotTentative s u d t) y (unbacked g z) = nowhere {k = rolledBack k} r′ off (rw (← e, y, ← z))
           where
             off : (j : ℕ) → j < E → mainOn w (slot′ j) ≡ false
-            off j l′ = not-true _ (λ h. on (roll-main w (slot j) (rw (all j l′) at h)))
+            off j l′ = not-true _ (λ h. on (rollback-main w (slot j) (rw (all j l′) at h)))
               where
-                on : ((mainOn w (slot j) ≡ true) × (tentOn w (slot j) ≡ false)) ⊎ (backOn w (slot j) ≡ true) → ⊥
+                on : ((mainOn w (slot j) ≡ true) × (tentativeOn w (slot j) ≡ false)) ⊎ (backOn w (slot j) ≡ true) → ⊥
                 on (inl a) = true≢false (cc (T .mains w i j l l′ m (a .0)))
                 on (inr c) = true≢false (sym c ∙ g j l′)
-    roll-has w k (nowhere r g y) = nowhere {k = rolledBack k} (rw (sameLine (home w)) r) off (ap rolledBack y)
+    rolled-has w k (nowhere r g y) = nowhere {k = rolledBack k} (rw (sameLine (home w)) r) off (ap rolledBack y)
       where
         off : (i : ℕ) → i < E → mainOn w (slot′ i) ≡ false
-        off i l = not-true _ (λ h. go (roll-main w (slot i) (rw (all i l) at h)))
+        off i l = not-true _ (λ h. go (rollback-main w (slot i) (rw (all i l) at h)))
           where
-            go : ((mainOn w (slot i) ≡ true) × (tentOn w (slot i) ≡ false)) ⊎ (backOn w (slot i) ≡ true) → ⊥
+            go : ((mainOn w (slot i) ≡ true) × (tentativeOn w (slot i) ≡ false)) ⊎ (backOn w (slot i) ≡ true) → ⊥
             go (inl a) = true≢false (sym (a .0) ∙ g i l)
-            go (inr b) = let x = T .paired w i l b in true≢false (sym (main-tent w (slot (x .0)) (x .2)) ∙ g (x .0) (x .1))
+            go (inr b) = let x = T .paired w i l b in true≢false (sym (main-tentative w (slot (x .0)) (x .2)) ∙ g (x .0) (x .1))
 
-    pub look-roll : (w : ℕ) → look E home slot′ line′ w ≡ rolledBack (look E home slot line w)
-    look-roll w = looks E home slot′ line′ tidy-roll w _ (roll-has w _ (look-is E home slot line w))
+    pub look-rolled : (w : ℕ) → look E home slot′ line′ w ≡ rolledBack (look E home slot line w)
+    look-rolled w = looks E home slot′ line′ tidy-rolled w _ (rolled-has w _ (look-is E home slot line w))

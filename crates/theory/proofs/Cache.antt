@@ -61,19 +61,19 @@ backOn w (slotNormal s u d) = false
 backOn w (slotBackup s u d) = is u w
 backOn w (slotTentative s u d t) = false
 
-abbrev pub tentOn : ℕ → Slot → Bool
-tentOn w vacant = false
-tentOn w (slotNormal s u d) = false
-tentOn w (slotBackup s u d) = false
-tentOn w (slotTentative s u d t) = is u w
+abbrev pub tentativeOn : ℕ → Slot → Bool
+tentativeOn w vacant = false
+tentativeOn w (slotNormal s u d) = false
+tentativeOn w (slotBackup s u d) = false
+tentativeOn w (slotTentative s u d t) = is u w
 
-abbrev pub regOn : ℕ → Line → Bool
-regOn w blank = false
-regOn w (filled s u d) = is u w
+abbrev pub regularOn : ℕ → Line → Bool
+regularOn w blank = false
+regularOn w (filled s u d) = is u w
 
-abbrev pub regCopy : Line → Copy
-regCopy blank = none
-regCopy (filled s u d) = regular s d
+abbrev pub lineCopy : Line → Copy
+lineCopy blank = none
+lineCopy (filled s u d) = regular s d
 
 abbrev pub slotCopy : Slot → Back → Copy
 slotCopy vacant b = none
@@ -122,10 +122,10 @@ module _ (E : ℕ) (home : ℕ → ℕ) (slot : ℕ → Slot) (line : ℕ → Li
     unbacked : {b : Back} → ((j : ℕ) → j < E → backOn w (slot j) ≡ false) → bare ≡ b → Backs w b
 
   pub data Has (w : ℕ) : Copy → Type 0 where
-    in-line : {k : Copy} → regOn w (line (home w)) ≡ true → regCopy (line (home w)) ≡ k → Has w k
-    in-slot : {k : Copy} {b : Back} (i : ℕ) → i < E → regOn w (line (home w)) ≡ false → mainOn w (slot i) ≡ true → Backs w b
+    in-line : {k : Copy} → regularOn w (line (home w)) ≡ true → lineCopy (line (home w)) ≡ k → Has w k
+    in-slot : {k : Copy} {b : Back} (i : ℕ) → i < E → regularOn w (line (home w)) ≡ false → mainOn w (slot i) ≡ true → Backs w b
         → slotCopy (slot i) b ≡ k → Has w k
-    nowhere : {k : Copy} → regOn w (line (home w)) ≡ false → ((i : ℕ) → i < E → mainOn w (slot i) ≡ false) → none ≡ k → Has w k
+    nowhere : {k : Copy} → regularOn w (line (home w)) ≡ false → ((i : ℕ) → i < E → mainOn w (slot i) ≡ false) → none ≡ k → Has w k
 
   -- and as a function
   pub lookBack : ℕ → Found → Back
@@ -140,11 +140,11 @@ module _ (E : ℕ) (home : ℕ → ℕ) (slot : ℕ → Slot) (line : ℕ → Li
   lookMain w missing = none
 
   pub lookLine : ℕ → Bool → Copy
-  lookLine w true = regCopy (line (home w))
+  lookLine w true = lineCopy (line (home w))
   lookLine w false = lookMain w (first (λ i. mainOn w (slot i)) E)
 
   pub look : ℕ → Copy
-  look w = lookLine w (regOn w (line (home w)))
+  look w = lookLine w (regularOn w (line (home w)))
 
   pub back-is : (w : ℕ) → Backs w (backOf w)
   unfolding backOf lookBack
@@ -154,16 +154,16 @@ module _ (E : ℕ) (home : ℕ → ℕ) (slot : ℕ → Slot) (line : ℕ → Li
       go r (at-first j l h g) = backed j l h refl
       go r (no-first g) = unbacked g refl
 
-  main-is : (w : ℕ) → regOn w (line (home w)) ≡ false → (r : Found) → First (λ i. mainOn w (slot i)) E r → Has w (lookMain w r)
+  main-is : (w : ℕ) → regularOn w (line (home w)) ≡ false → (r : Found) → First (λ i. mainOn w (slot i)) E r → Has w (lookMain w r)
   unfolding lookMain
   main-is w e r (at-first i l h g) = in-slot i l e h (back-is w) refl
   main-is w e r (no-first g) = nowhere e g refl
 
   pub look-is : (w : ℕ) → Has w (look w)
   unfolding look lookLine
-  look-is w = go (regOn w (line (home w))) refl
+  look-is w = go (regularOn w (line (home w))) refl
     where
-      go : (b : Bool) → regOn w (line (home w)) ≡ b → Has w (lookLine w b)
+      go : (b : Bool) → regularOn w (line (home w)) ≡ b → Has w (lookLine w b)
       go true e = in-line e refl
       go false e = main-is w e (first (λ i. mainOn w (slot i)) E) (first-is (λ i. mainOn w (slot i)) E)
 
@@ -171,8 +171,8 @@ module _ (E : ℕ) (home : ℕ → ℕ) (slot : ℕ → Slot) (line : ℕ → Li
   pub record Tidy : Type 0 where
     pub mains : (w i j : ℕ) → i < E → j < E → mainOn w (slot i) ≡ true → mainOn w (slot j) ≡ true → i ≡ j
     pub backs : (w i j : ℕ) → i < E → j < E → backOn w (slot i) ≡ true → backOn w (slot j) ≡ true → i ≡ j
-    pub apart : (w i : ℕ) → i < E → mainOn w (slot i) ≡ true → regOn w (line (home w)) ≡ false
-    pub paired : (w j : ℕ) → j < E → backOn w (slot j) ≡ true → (i : ℕ) × (i < E) × (tentOn w (slot i) ≡ true)
+    pub apart : (w i : ℕ) → i < E → mainOn w (slot i) ≡ true → regularOn w (line (home w)) ≡ false
+    pub paired : (w j : ℕ) → j < E → backOn w (slot j) ≡ true → (i : ℕ) × (i < E) × (tentativeOn w (slot i) ≡ true)
 
   backs-one : Tidy → (w : ℕ) (b b′ : Back) → Backs w b → Backs w b′ → b ≡ b′
   backs-one T w b b′ (backed j l h e) (backed j′ l′ h′ e′) = cc (T .backs w j j′ l l′ h h′)
@@ -202,7 +202,7 @@ abbrev pub Calm : ℕ → Slot → Slot → Type 0
 Calm w x y = (y ≡ x) ⊎ (Off w x × Off w y)
 
 abbrev pub LineCalm : ℕ → Line → Line → Type 0
-LineCalm w x y = (y ≡ x) ⊎ ((regOn w x ≡ false) × (regOn w y ≡ false))
+LineCalm w x y = (y ≡ x) ⊎ ((regularOn w x ≡ false) × (regularOn w y ≡ false))
 
 module _ (E : ℕ) (home : ℕ → ℕ) (slot slot′ : ℕ → Slot) (line line′ : ℕ → Line) where
   module _ (w : ℕ) (ls : LineCalm w (line (home w)) (line′ (home w))) (cs : (i : ℕ) → i < E → Calm w (slot i) (slot′ i)) where
@@ -218,10 +218,10 @@ module _ (E : ℕ) (home : ℕ → ℕ) (slot slot′ : ℕ → Slot) (line line
     on-back : (i : ℕ) → i < E → backOn w (slot i) ≡ true → slot′ i ≡ slot i
     on-back i l h = elim (cs i l) [ inl e ↦ e | inr o ↦ absurd (true≢false (sym h ∙ o .0 .1)) ]
 
-    off-line : regOn w (line (home w)) ≡ false → regOn w (line′ (home w)) ≡ false
+    off-line : regularOn w (line (home w)) ≡ false → regularOn w (line′ (home w)) ≡ false
     off-line h = elim ls [ inl e ↦ rw e h | inr o ↦ o .1 ]
 
-    on-line : regOn w (line (home w)) ≡ true → line′ (home w) ≡ line (home w)
+    on-line : regularOn w (line (home w)) ≡ true → line′ (home w) ≡ line (home w)
     on-line h = elim ls [ inl e ↦ e | inr o ↦ absurd (true≢false (sym h ∙ o .0)) ]
 
     pub carry-back : (b : Back) → Backs E home slot line w b → Backs E home slot′ line′ w b
@@ -240,8 +240,8 @@ module _ (E : ℕ) (home : ℕ → ℕ) (slot slot′ : ℕ → Slot) (line line
   pub tidy-shrink : Tidy E home slot line
       → ((i w : ℕ) → i < E → mainOn w (slot′ i) ≡ true → mainOn w (slot i) ≡ true)
       → ((i w : ℕ) → i < E → backOn w (slot′ i) ≡ true → backOn w (slot i) ≡ true)
-      → ((i j w : ℕ) → i < E → j < E → backOn w (slot′ j) ≡ true → tentOn w (slot i) ≡ true → tentOn w (slot′ i) ≡ true)
-      → ((w : ℕ) → regOn w (line (home w)) ≡ false → regOn w (line′ (home w)) ≡ false)
+      → ((i j w : ℕ) → i < E → j < E → backOn w (slot′ j) ≡ true → tentativeOn w (slot i) ≡ true → tentativeOn w (slot′ i) ≡ true)
+      → ((w : ℕ) → regularOn w (line (home w)) ≡ false → regularOn w (line′ (home w)) ≡ false)
       → Tidy E home slot′ line′
   tidy-shrink T m b t r = record {
     mains = λ w i j l l′ h h′. T .mains w i j l l′ (m i w l h) (m j w l′ h′);
@@ -254,8 +254,8 @@ pub not-true : (b : Bool) → ¬ (b ≡ true) → b ≡ false
 not-true true h = absurd (h refl)
 not-true false h = refl
 
-pub main-tent : (w : ℕ) (x : Slot) → tentOn w x ≡ true → mainOn w x ≡ true
-main-tent w vacant h = h
-main-tent w (slotNormal s u d) h = absurd (false≢true h)
-main-tent w (slotBackup s u d) h = absurd (false≢true h)
-main-tent w (slotTentative s u d t) h = h
+pub main-tentative : (w : ℕ) (x : Slot) → tentativeOn w x ≡ true → mainOn w x ≡ true
+main-tentative w vacant h = h
+main-tentative w (slotNormal s u d) h = absurd (false≢true h)
+main-tentative w (slotBackup s u d) h = absurd (false≢true h)
+main-tentative w (slotTentative s u d t) h = h

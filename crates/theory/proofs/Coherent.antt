@@ -4,7 +4,7 @@ use mathlib.Core.Bool.{true≢false}
 use mathlib.Core.List.{List}
 use Prim.Native.Nat.{ℕ}
 use Rattle.theory.specs.View.{ownValue, View}
-use Rattle.theory.proofs.OneWord.{tstored, stored, released}
+use Rattle.theory.proofs.OneWord.{stored-tentative, stored, released}
 use Rattle.theory.specs.Log.{put}
 use Rattle.theory.proofs.Logs.{put-here, put-else}
 use Rattle.theory.specs.Event.{Event}
@@ -38,7 +38,7 @@ agree-shown {M = M} A (treads p w s was) = record { vals = M; agree = agree-sile
 agree-shown {M = M} A (twrites p w at was u here em) = record {
   vals = M;
   agree =
-      agree-at p w A at (rw em (tstored (A .words w) p was u here (at .proc-else))) (λ u n. refl) (λ h. A .live w p (rw was));
+      agree-at p w A at (rw em (stored-tentative (A .words w) p was u here (at .proc-else))) (λ u n. refl) (λ h. A .live w p (rw was));
 }
 agree-shown {M = M} A (releases p w at was here em) = record {
   vals = M;
@@ -46,7 +46,8 @@ agree-shown {M = M} A (releases p w at was here em) = record {
       agree-at p w A at (rw em (released (A .words w) p was here (at .proc-else))) (λ u n. refl) (λ h. A .live w p (rw was));
 }
 agree-shown {S = S} {M = M} A (commits p st c) = record { vals = λ w. ownValue (S .copy w p) (M w); agree = agree-commit p A c }
-agree-shown {M = M} A (drops p no-tent c) = record { vals = M; agree = agree-flags p A c (λ w h. absurd (true≢false (sym h ∙ no-tent w))) }
+agree-shown {M = M} A (drops p none-tentative c) =
+    record { vals = M; agree = agree-flags p A c (λ w h. absurd (true≢false (sym h ∙ none-tentative w))) }
 
 agree-run : {S S′ : View} {M : ℕ → ℕ} {es : List Event} → Agree S M → Run S es S′ → Agrees′ S′
 agree-run {M = M} A done = record { vals = M; agree = A }

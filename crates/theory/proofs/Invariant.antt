@@ -6,8 +6,8 @@ use mathlib.Core.List.{List, [], _∷_}
 use Prim.Native.Nat.{ℕ}
 use native.Mathlib.Decide.{ℕ-discrete}
 use Rattle.theory.specs.View.{LineState, valid, reserved, dirty, Copy, none, regular, normal, tentative, isDirty, isTentative, exclusive, owns, fine, ownValue, Word, View}
-use Rattle.theory.proofs.Move.{Move, drop-reg, drop-norm, drop-back, lower-reg, lower-norm, begin-kept, begin-bare, fill-reg, fill-tent, fill-kept, own-reg, own-tent, own-kept, upgrade}
-use Rattle.theory.proofs.OneWord.{Alone, tstored, stored, low-cell, alone-low, released, dry-value}
+use Rattle.theory.proofs.Move.{Move, drop-regular, drop-normal, drop-backup, lower-regular, lower-normal, begin-backed, begin-bare, fill-regular, fill-tentative, fill-backed, own-regular, own-tentative, own-backed, upgrade}
+use Rattle.theory.proofs.OneWord.{Alone, stored-tentative, stored, low-cell, alone-low, released, clean-value}
 use Rattle.theory.specs.Event.{Event, store, tread}
 use Rattle.theory.specs.Change.{At}
 use Rattle.theory.proofs.Moves.{Silent, still, move, rollback, wake, sees, Shown, loads, stores, writes, treads, twrites, releases, commits, drops, Run, done, quietly, showing}
@@ -20,38 +20,38 @@ pub record Inv (S : View) (P : Plain) : Type 0 where
   pub agree : Agree S (P .val)
   pub logs : (p : ℕ) → S .status p ≡ true → Good (P .log p) (P .val) (λ w. S .copy w p)
 
-pub mv-tv : {live low alone : Type 0} {m m′ x : ℕ} {k k′ : Copy} → Move live low alone m k m′ k′ → fine k x → (low → owns k ≡ false → m ≡ x)
+pub move-value : {live low alone : Type 0} {m m′ x : ℕ} {k k′ : Copy} → Move live low alone m k m′ k′ → fine k x → (low → owns k ≡ false → m ≡ x)
     → (alone → low) → ownValue k′ x ≡ ownValue k x
-mv-tv drop-reg f g w = refl
-mv-tv drop-norm f g w = refl
-mv-tv drop-back f g w = refl
-mv-tv lower-reg f g w = refl
-mv-tv lower-norm f g w = refl
-mv-tv (begin-kept a i) f g w = f
-mv-tv (begin-bare a) f g w = f
-mv-tv (fill-reg l) f g w = refl
-mv-tv (fill-tent a l) f g w = g l refl
-mv-tv (fill-kept a l) f g w = g l refl
-mv-tv (own-reg z) f g w = refl
-mv-tv (own-tent a z) f g w = g (w z) refl
-mv-tv (own-kept a z) f g w = g (w z) refl
-mv-tv (upgrade z) f g w = refl
+move-value drop-regular f g w = refl
+move-value drop-normal f g w = refl
+move-value drop-backup f g w = refl
+move-value lower-regular f g w = refl
+move-value lower-normal f g w = refl
+move-value (begin-backed a i) f g w = f
+move-value (begin-bare a) f g w = f
+move-value (fill-regular l) f g w = refl
+move-value (fill-tentative a l) f g w = g l refl
+move-value (fill-backed a l) f g w = g l refl
+move-value (own-regular z) f g w = refl
+move-value (own-tentative a z) f g w = g (w z) refl
+move-value (own-backed a z) f g w = g (w z) refl
+move-value (upgrade z) f g w = refl
 
-pub mv-keeps : {live low alone : Type 0} {m m′ : ℕ} {k k′ : Copy} → Move live low alone m k m′ k′ → Keeps k k′
-mv-keeps drop-reg = ((λ h. h), (λ h. h))
-mv-keeps drop-norm = ((λ h. h), (λ h. h))
-mv-keeps drop-back = ((λ h. h), (λ h. h))
-mv-keeps lower-reg = ((λ h. h), (λ h. h))
-mv-keeps lower-norm = ((λ h. h), (λ h. h))
-mv-keeps (begin-kept a i) = ((λ h. refl), (λ h. absurd (false≢true h)))
-mv-keeps (begin-bare a) = ((λ h. refl), (λ h. absurd (false≢true h)))
-mv-keeps (fill-reg l) = ((λ h. h), (λ h. h))
-mv-keeps (fill-tent a l) = ((λ h. refl), (λ h. absurd (false≢true h)))
-mv-keeps (fill-kept a l) = ((λ h. refl), (λ h. absurd (false≢true h)))
-mv-keeps (own-reg z) = ((λ h. h), (λ h. h))
-mv-keeps (own-tent a z) = ((λ h. refl), (λ h. absurd (false≢true h)))
-mv-keeps (own-kept a z) = ((λ h. refl), (λ h. absurd (false≢true h)))
-mv-keeps (upgrade z) = ((λ h. h), (λ h. h))
+pub move-keeps : {live low alone : Type 0} {m m′ : ℕ} {k k′ : Copy} → Move live low alone m k m′ k′ → Keeps k k′
+move-keeps drop-regular = ((λ h. h), (λ h. h))
+move-keeps drop-normal = ((λ h. h), (λ h. h))
+move-keeps drop-backup = ((λ h. h), (λ h. h))
+move-keeps lower-regular = ((λ h. h), (λ h. h))
+move-keeps lower-normal = ((λ h. h), (λ h. h))
+move-keeps (begin-backed a i) = ((λ h. refl), (λ h. absurd (false≢true h)))
+move-keeps (begin-bare a) = ((λ h. refl), (λ h. absurd (false≢true h)))
+move-keeps (fill-regular l) = ((λ h. h), (λ h. h))
+move-keeps (fill-tentative a l) = ((λ h. refl), (λ h. absurd (false≢true h)))
+move-keeps (fill-backed a l) = ((λ h. refl), (λ h. absurd (false≢true h)))
+move-keeps (own-regular z) = ((λ h. h), (λ h. h))
+move-keeps (own-tentative a z) = ((λ h. refl), (λ h. absurd (false≢true h)))
+move-keeps (own-backed a z) = ((λ h. refl), (λ h. absurd (false≢true h)))
+move-keeps (upgrade z) = ((λ h. h), (λ h. h))
 
 -- at one place
 module _ {S S′ : View} (p w : ℕ) (at : At p w S S′) where
@@ -89,8 +89,8 @@ inv-silent {S} {S′} {P} I s = record { agree = agree-silent (I .agree) s; logs
     go : Silent S S′ → (q : ℕ) → S′ .status q ≡ true → Good (P .log q) (P .val) (λ w. S′ .copy w q)
     go (still i) q h = good-same (I .logs q (sym (i .status-same q) ∙ h)) (λ w. i .copy-same w q)
     go (move p w {k} {k′} {m} at em em′ was here v) q h =
-        good-at p w at q (I .logs q (sym (at .status-same q) ∙ h)) (rw (here, was) (mv-keeps v))
-        (rw (here, was) (mv-tv v (rw was at (I .agree .words w .holds p)) (λ l o. sym em ∙ low-cell (I .agree .words w) p was o l) alone-low))
+        good-at p w at q (I .logs q (sym (at .status-same q) ∙ h)) (rw (here, was) (move-keeps v))
+        (rw (here, was) (move-value v (rw was at (I .agree .words w .holds p)) (λ l o. sym em ∙ low-cell (I .agree .words w) p was o l) alone-low))
     go (rollback p c st) q h = pick (ℕ-discrete q p)
       where
         pick : Dec (q ≡ p) → Good (P .log q) (P .val) (λ w. S′ .copy w q)
@@ -106,7 +106,7 @@ pub sees-fine : (k : Copy) (x y : ℕ) → sees k x → fine k y → y ≡ x
 sees-fine none x y h f = absurd h
 sees-fine (regular s d) x y h f = sym f ∙ h
 sees-fine (normal s d) x y h f = sym f ∙ h
-sees-fine (tentative s d b t) x y h f = sym (dry-value s d b t y f (h .0)) ∙ h .1
+sees-fine (tentative s d b t) x y h f = sym (clean-value s d b t y f (h .0)) ∙ h .1
 
 -- one processor's log is replaced
 logs-put : (f : ℕ → List Item) (p : ℕ) (l : List Item) (G : List Item → ℕ → Type 0)
@@ -127,7 +127,7 @@ commit-else {m} {x} {c} p q W n t = go (c p) refl
     go none e = refl
     go (regular s d) e = refl
     go (normal s d) e = refl
-    go (tentative valid d b t) e = dry-value valid d b t x (rw e at (W .holds p)) refl
+    go (tentative valid d b t) e = clean-value valid d b t x (rw e at (W .holds p)) refl
     go (tentative reserved d b t) e = absurd (off (rw e))
     go (tentative dirty d b t) e = absurd (off (rw e))
 
@@ -161,7 +161,7 @@ inv-shown {S} {S′} {P} I (treads p w {s} {x} {b} e was) = (tt, inv-silent J (s
 inv-shown {S} {S′} {P} I (twrites p w {s} {d} {v} {b} at was u here em) = (
   tt,
   record {
-    agree = agree-at p w (I .agree) at (rw em (tstored (I .agree .words w) p was u here (at .proc-else))) (λ u n. refl)
+    agree = agree-at p w (I .agree) at (rw em (stored-tentative (I .agree .words w) p was u here (at .proc-else))) (λ u n. refl)
         (λ h. I .agree .live w p (rw was));
     logs = logs-put (P .log) p (write w v ∷ P .log p) (λ l q. S′ .status q ≡ true → Good l (P .val) (λ u. S′ .copy u q))
         (λ h. good-write w v (I .logs p (sym (at .status-same p) ∙ h)) (rw here) (rw here) (rw here) (λ u n. at .word-else u n p))
@@ -190,12 +190,12 @@ inv-shown {S} {S′} {P} I (commits p st c) = (
         (λ u. c .else u q n));
   },
 )
-inv-shown {S} {S′} {P} I (drops p no-tent c) = (
+inv-shown {S} {S′} {P} I (drops p none-tentative c) = (
   tt,
   record {
-    agree = agree-flags p (I .agree) c (λ w h. absurd (true≢false (sym h ∙ no-tent w)));
+    agree = agree-flags p (I .agree) c (λ w h. absurd (true≢false (sym h ∙ none-tentative w)));
     logs = logs-put (P .log) p [] (λ l q. S′ .status q ≡ true → Good l (P .val) (λ u. S′ .copy u q))
-        (λ h. good-empty (λ w. rw (c .here w) (no-tent w)))
+        (λ h. good-empty (λ w. rw (c .here w) (none-tentative w)))
         (λ q n h. good-same (I .logs q (sym (c .status-else q n) ∙ h)) (λ u. c .else u q n));
   },
 )
@@ -211,7 +211,7 @@ sees-shown {S} {P = P} I (treads p w {s} {x} e was) =
 sees-shown I (twrites p w at was u here em) = tt
 sees-shown I (releases p w at was here em) = tt
 sees-shown I (commits p st c) = tt
-sees-shown I (drops p no-tent c) = tt
+sees-shown I (drops p none-tentative c) = tt
 
 -- the theorem: a run from a state that agrees with a plain one is a run of the plain machine
 pub serial : {S S′ : View} {P : Plain} {es : List Event} → Inv S P → Run S es S′ → Serial es P × Opaque es P × Inv S′ (after es P)

@@ -5,13 +5,13 @@ use mathlib.Core.Bool.{true, false, true≢false}
 use Prim.Native.Nat.{ℕ, _<_}
 use native.Mathlib.Decide.{ℕ-discrete}
 use Rattle.theory.specs.View.{LineState, none, regular}
-use Rattle.theory.proofs.Cache.{Slot, Line, blank, filled, is-self, is-other, mainOn, regOn, in-line, nowhere, look, Tidy, looks, LineCalm, look-calm, not-true}
+use Rattle.theory.proofs.Cache.{Slot, Line, blank, filled, is-self, is-other, mainOn, regularOn, in-line, nowhere, look, Tidy, looks, LineCalm, look-calm, not-true}
 
 abbrev pub lineIs : ℕ → Line → Type 0
 lineIs u blank = Unit {0}
 lineIs u (filled s v d) = v ≡ u
 
-line-off : (u : ℕ) (x : Line) → lineIs u x → (w : ℕ) → w ≢ u → regOn w x ≡ false
+line-off : (u : ℕ) (x : Line) → lineIs u x → (w : ℕ) → w ≢ u → regularOn w x ≡ false
 line-off u blank e w n = refl
 line-off u (filled s v d) e w n = is-other v w (λ i. n (sym i ∙ e))
 
@@ -26,10 +26,10 @@ module _ (E : ℕ) (home : ℕ → ℕ) (slot : ℕ → Slot) (line line′ : �
     pub tidy-line : ((i : ℕ) → i < E → mainOn u (slot i) ≡ false) → Tidy E home slot line′
     tidy-line o = record { mains = T .mains; backs = T .backs; paired = T .paired; apart = ap′ }
       where
-        ap′ : (w i : ℕ) → i < E → mainOn w (slot i) ≡ true → regOn w (line′ (home w)) ≡ false
+        ap′ : (w i : ℕ) → i < E → mainOn w (slot i) ≡ true → regularOn w (line′ (home w)) ≡ false
         ap′ w i l m = go (ℕ-discrete w u)
           where
-            go : Dec (w ≡ u) → regOn w (line′ (home w)) ≡ false
+            go : Dec (w ≡ u) → regularOn w (line′ (home w)) ≡ false
             go (yes e) = absurd (true≢false (sym m ∙ rw e (o i l)))
             go (no n) = elim (line-calm w n) [ inl e ↦ rw e (T .apart w i l m) | inr z ↦ z .1 ]
 

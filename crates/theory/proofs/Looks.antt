@@ -3,20 +3,20 @@ use mathlib.Core.Path.{_≡_, refl, sym, _∙_}
 use mathlib.Core.Bool.{Bool, true, false, true≢false, false≢true}
 use Prim.Native.Nat.{ℕ, _<_}
 use Rattle.theory.specs.View.{LineState, Back, Copy, none, regular, normal, tentative}
-use Rattle.theory.proofs.Cache.{Slot, vacant, slotNormal, slotBackup, slotTentative, Line, blank, filled, is-true, mainOn, backOn, regOn, regCopy, slotCopy, Backs, Has, in-line, in-slot, nowhere, look, look-is, Tidy, main-tent, not-true, looks}
+use Rattle.theory.proofs.Cache.{Slot, vacant, slotNormal, slotBackup, slotTentative, Line, blank, filled, is-true, mainOn, backOn, regularOn, lineCopy, slotCopy, Backs, Has, in-line, in-slot, nowhere, look, look-is, Tidy, main-tentative, not-true, looks}
 use Rattle.theory.proofs.Slots.{look-none}
 
 -- what is seen is in a slot
-pub look-tent : (E : ℕ) (home : ℕ → ℕ) (slot : ℕ → Slot) (line : ℕ → Line) (w : ℕ) {s : LineState} {d : ℕ} {b : Back} {t : Bool}
+pub tentative-seen : (E : ℕ) (home : ℕ → ℕ) (slot : ℕ → Slot) (line : ℕ → Line) (w : ℕ) {s : LineState} {d : ℕ} {b : Back} {t : Bool}
     → look E home slot line w ≡ tentative s d b t
     → (i : ℕ) × (i < E) × (slot i ≡ slotTentative s w d t) × Backs E home slot line w b
-look-tent E home slot line w {s} {d} {b} {t} e = go (look E home slot line w) (look-is E home slot line w) e
+tentative-seen E home slot line w {s} {d} {b} {t} e = go (look E home slot line w) (look-is E home slot line w) e
   where
     go : (k : Copy) → Has E home slot line w k → k ≡ tentative s d b t → (i : ℕ) × (i < E) × (slot i ≡ slotTentative s w d t)
         × Backs E home slot line w b
     go k (in-line h y) e = absurd (one (line (home w)) (y ∙ e))
       where
-        one : (x : Line) → regCopy x ≡ tentative s d b t → ⊥
+        one : (x : Line) → lineCopy x ≡ tentative s d b t → ⊥
         one blank y = let z : true ≡ false = cc in true≢false z
         one (filled s′ u d′) y = let z : true ≡ false = cc in true≢false z
     go k (in-slot {b = b′} i l r m bk y) e = one (slot i) refl m (y ∙ e)
@@ -31,14 +31,14 @@ look-tent E home slot line w {s} {d} {b} {t} e = go (look E home slot line w) (l
             (i, l, cc (is-true u w m), rw eb at bk)
     go k (nowhere r g y) e = let z : true ≡ false = cc in absurd (true≢false z)
 
-pub look-norm : (E : ℕ) (home : ℕ → ℕ) (slot : ℕ → Slot) (line : ℕ → Line) (w : ℕ) {s : LineState} {d : ℕ} → look E home slot line w ≡ normal s d
+pub normal-seen : (E : ℕ) (home : ℕ → ℕ) (slot : ℕ → Slot) (line : ℕ → Line) (w : ℕ) {s : LineState} {d : ℕ} → look E home slot line w ≡ normal s d
     → (i : ℕ) × (i < E) × (slot i ≡ slotNormal s w d)
-look-norm E home slot line w {s} {d} e = go (look E home slot line w) (look-is E home slot line w) e
+normal-seen E home slot line w {s} {d} e = go (look E home slot line w) (look-is E home slot line w) e
   where
     go : (k : Copy) → Has E home slot line w k → k ≡ normal s d → (i : ℕ) × (i < E) × (slot i ≡ slotNormal s w d)
     go k (in-line h y) e = absurd (one (line (home w)) (y ∙ e))
       where
-        one : (x : Line) → regCopy x ≡ normal s d → ⊥
+        one : (x : Line) → lineCopy x ≡ normal s d → ⊥
         one blank y = let z : true ≡ false = cc in true≢false z
         one (filled s′ u d′) y = let z : true ≡ false = cc in true≢false z
     go k (in-slot {b = b′} i l r m bk y) e = one (slot i) refl m (y ∙ e)
@@ -50,15 +50,15 @@ look-norm E home slot line w {s} {d} e = go (look E home slot line w) (look-is E
         one (slotTentative s′ u d′ t′) z m y = let q : true ≡ false = cc in absurd (true≢false q)
     go k (nowhere r g y) e = let z : true ≡ false = cc in absurd (true≢false z)
 
-pub look-reg : (E : ℕ) (home : ℕ → ℕ) (slot : ℕ → Slot) (line : ℕ → Line) (w : ℕ) {s : LineState} {d : ℕ} → look E home slot line w ≡ regular s d
-    → regOn w (line (home w)) ≡ true
-look-reg E home slot line w {s} {d} e = go (look E home slot line w) (look-is E home slot line w) e
+pub regular-seen : (E : ℕ) (home : ℕ → ℕ) (slot : ℕ → Slot) (line : ℕ → Line) (w : ℕ) {s : LineState} {d : ℕ} → look E home slot line w ≡ regular s d
+    → regularOn w (line (home w)) ≡ true
+regular-seen E home slot line w {s} {d} e = go (look E home slot line w) (look-is E home slot line w) e
   where
-    go : (k : Copy) → Has E home slot line w k → k ≡ regular s d → regOn w (line (home w)) ≡ true
+    go : (k : Copy) → Has E home slot line w k → k ≡ regular s d → regularOn w (line (home w)) ≡ true
     go k (in-line h y) e = h
     go k (in-slot {b = b′} i l r m bk y) e = one (slot i) m (y ∙ e)
       where
-        one : (x : Slot) → mainOn w x ≡ true → slotCopy x b′ ≡ regular s d → regOn w (line (home w)) ≡ true
+        one : (x : Slot) → mainOn w x ≡ true → slotCopy x b′ ≡ regular s d → regularOn w (line (home w)) ≡ true
         one vacant m y = absurd (false≢true m)
         one (slotNormal s′ u d′) m y = let q : true ≡ false = cc in absurd (true≢false q)
         one (slotBackup s′ u d′) m y = absurd (false≢true m)
@@ -69,7 +69,7 @@ look-reg E home slot line w {s} {d} e = go (look E home slot line w) (look-is E 
 pub none-backs : (E : ℕ) (home : ℕ → ℕ) (slot : ℕ → Slot) (line : ℕ → Line) → Tidy E home slot line → (w : ℕ) → look E home slot line w ≡ none
     → (j : ℕ) → j < E → backOn w (slot j) ≡ false
 none-backs E home slot line T w e j l = not-true _
-    (λ h. let x = T .paired w j l h in true≢false (sym (main-tent w (slot (x .0)) (x .2)) ∙ look-none E home slot line w e .1 (x .0) (x .1)))
+    (λ h. let x = T .paired w j l h in true≢false (sym (main-tentative w (slot (x .0)) (x .2)) ∙ look-none E home slot line w e .1 (x .0) (x .1)))
 
 -- empty caches
 module _ (E : ℕ) (home : ℕ → ℕ) (slot : ℕ → Slot) (line : ℕ → Line) (slots : (i : ℕ) → slot i ≡ vacant) where

@@ -31,15 +31,15 @@ changed {m} {m′} {x} {x′} {c} {c′} {p} {k} W here else ex₁ ex₂ f₁ f�
         go (no n′) (yes e) = rw e (here ∙ ex₂ r n′ (cc (else r n′)))
         go (no n′) (no n″) = else q n″ ∙ W .only r q (cc (else r n′)) n
 
-pub wet-up : (s : LineState) → isDirty s ≡ true → above s ≡ true
-wet-up valid h = h
-wet-up reserved h = refl
-wet-up dirty h = refl
+pub dirty-above : (s : LineState) → isDirty s ≡ true → above s ≡ true
+dirty-above valid h = h
+dirty-above reserved h = refl
+dirty-above dirty h = refl
 
-pub not-up : (s : LineState) → above s ≡ false → isDirty s ≡ false
-not-up valid h = refl
-not-up reserved h = refl
-not-up dirty h = h
+pub valid-clean : (s : LineState) → above s ≡ false → isDirty s ≡ false
+valid-clean valid h = refl
+valid-clean reserved h = refl
+valid-clean dirty h = h
 
 pub below-self : (s : LineState) → below s s
 below-self valid = tt
@@ -51,15 +51,15 @@ below-valid valid s h = tt
 below-valid reserved s h = absurd (false≢true h)
 below-valid dirty s h = absurd (false≢true h)
 
-pub below-up : (r s : LineState) → above r ≡ true → below r s → above s ≡ true
-below-up valid s u h = absurd (false≢true u)
-below-up reserved s u h = h
-below-up dirty s u h = wet-up s h
+pub below-above : (r s : LineState) → above r ≡ true → below r s → above s ≡ true
+below-above valid s u h = absurd (false≢true u)
+below-above reserved s u h = h
+below-above dirty s u h = dirty-above s h
 
-pub below-dry : (r s : LineState) → isDirty s ≡ false → below r s → isDirty r ≡ false
-below-dry valid s u h = refl
-below-dry reserved s u h = refl
-below-dry dirty s u h = sym h ∙ u
+pub below-clean : (r s : LineState) → isDirty s ≡ false → below r s → isDirty r ≡ false
+below-clean valid s u h = refl
+below-clean reserved s u h = refl
+below-clean dirty s u h = sym h ∙ u
 
 pub below-dirty : (r : LineState) → below r dirty
 below-dirty valid = tt
@@ -70,21 +70,21 @@ pub back-raise : (b : Back) (s s′ : LineState) (x : ℕ) → ((r : LineState) 
 back-raise bare s s′ x g f = tt
 back-raise (backup r e) s s′ x g f = (f .0, g r (f .1))
 
-pub dry-back : (b : Back) (s : LineState) (x : ℕ) → isDirty s ≡ false → fineBack b s x → backDirty b ≡ false
-dry-back bare s x h f = refl
-dry-back (backup r e) s x h f = below-dry r s h (f .1)
+pub clean-backup : (b : Back) (s : LineState) (x : ℕ) → isDirty s ≡ false → fineBack b s x → backDirty b ≡ false
+clean-backup bare s x h f = refl
+clean-backup (backup r e) s x h f = below-clean r s h (f .1)
 
 -- a tentative copy that is not DIRTY holds the settled value
-pub dry-value : (s : LineState) (d : ℕ) (b : Back) (t : Bool) (x : ℕ) → fine (tentative s d b t) x → isDirty s ≡ false → d ≡ x
-dry-value s d b false x f h = f .0 refl
-dry-value s d b true x f h = absurd (true≢false (sym (f .1 refl) ∙ h))
+pub clean-value : (s : LineState) (d : ℕ) (b : Back) (t : Bool) (x : ℕ) → fine (tentative s d b t) x → isDirty s ≡ false → d ≡ x
+clean-value s d b false x f h = f .0 refl
+clean-value s d b true x f h = absurd (true≢false (sym (f .1 refl) ∙ h))
 
 -- a copy that is not exclusive owns nothing
-pub owns-excl : (k : Copy) (x : ℕ) → fine k x → exclusive k ≡ false → owns k ≡ false
-owns-excl none x f h = refl
-owns-excl (regular s d) x f h = not-up s h
-owns-excl (normal s d) x f h = not-up s h
-owns-excl (tentative s d b t) x f h = dry-back b s x (not-up s h) (f .2)
+pub owns-exclusive : (k : Copy) (x : ℕ) → fine k x → exclusive k ≡ false → owns k ≡ false
+owns-exclusive none x f h = refl
+owns-exclusive (regular s d) x f h = valid-clean s h
+owns-exclusive (normal s d) x f h = valid-clean s h
+owns-exclusive (tentative s d b t) x f h = clean-backup b s x (valid-clean s h) (f .2)
 
 abbrev pub Low : (ℕ → Copy) → ℕ → Type 0
 Low c p = (q : ℕ) → q ≢ p → exclusive (c q) ≡ false
@@ -95,32 +95,32 @@ Alone c p = (q : ℕ) → q ≢ p → c q ≡ none
 pub alone-low : {c : ℕ → Copy} {p : ℕ} → Alone c p → Low c p
 alone-low a q n = rw (a q n)
 
-pub roll-excl : (k : Copy) (x : ℕ) → fine k x → exclusive (rolledBack k) ≡ true → exclusive k ≡ true
-roll-excl none x f h = h
-roll-excl (regular s d) x f h = h
-roll-excl (normal s d) x f h = h
-roll-excl (tentative s d bare t) x f h = absurd (false≢true h)
-roll-excl (tentative s d (backup r e) t) x f h = below-up r s h (f .2 .1)
+pub rolled-exclusive : (k : Copy) (x : ℕ) → fine k x → exclusive (rolledBack k) ≡ true → exclusive k ≡ true
+rolled-exclusive none x f h = h
+rolled-exclusive (regular s d) x f h = h
+rolled-exclusive (normal s d) x f h = h
+rolled-exclusive (tentative s d bare t) x f h = absurd (false≢true h)
+rolled-exclusive (tentative s d (backup r e) t) x f h = below-above r s h (f .2 .1)
 
-pub roll-none : (k : Copy) → has k ≡ false → rolledBack k ≡ none
-roll-none none h = refl
-roll-none (regular s d) h = absurd (true≢false h)
-roll-none (normal s d) h = absurd (true≢false h)
-roll-none (tentative s d b t) h = absurd (true≢false h)
+pub rolled-none : (k : Copy) → has k ≡ false → rolledBack k ≡ none
+rolled-none none h = refl
+rolled-none (regular s d) h = absurd (true≢false h)
+rolled-none (normal s d) h = absurd (true≢false h)
+rolled-none (tentative s d b t) h = absurd (true≢false h)
 
-pub roll-fine : (k : Copy) (x : ℕ) → fine k x → fine (rolledBack k) x
-roll-fine none x f = f
-roll-fine (regular s d) x f = f
-roll-fine (normal s d) x f = f
-roll-fine (tentative s d bare t) x f = tt
-roll-fine (tentative s d (backup r e) t) x f = f .2 .0
+pub rolled-fine : (k : Copy) (x : ℕ) → fine k x → fine (rolledBack k) x
+rolled-fine none x f = f
+rolled-fine (regular s d) x f = f
+rolled-fine (normal s d) x f = f
+rolled-fine (tentative s d bare t) x f = tt
+rolled-fine (tentative s d (backup r e) t) x f = f .2 .0
 
-pub roll-owns : (k : Copy) → owns (rolledBack k) ≡ owns k
-roll-owns none = refl
-roll-owns (regular s d) = refl
-roll-owns (normal s d) = refl
-roll-owns (tentative s d bare t) = refl
-roll-owns (tentative s d (backup r e) t) = refl
+pub rolled-owns : (k : Copy) → owns (rolledBack k) ≡ owns k
+rolled-owns none = refl
+rolled-owns (regular s d) = refl
+rolled-owns (normal s d) = refl
+rolled-owns (tentative s d bare t) = refl
+rolled-owns (tentative s d (backup r e) t) = refl
 
 module _ {m x : ℕ} {c : ℕ → Copy} (W : Word m c x) where
   -- with no exclusive copy elsewhere and none here that owns the value, the memory has it
@@ -128,7 +128,7 @@ module _ {m x : ℕ} {c : ℕ → Copy} (W : Word m c x) where
   low-cell p was o l = W .cell each
     where
       each : (q : ℕ) → owns (c q) ≡ false
-      each q = elim (ℕ-discrete q p) [ yes e ↦ rw (e, was) o | no n ↦ owns-excl (c q) x (W .holds q) (l q n) ]
+      each q = elim (ℕ-discrete q p) [ yes e ↦ rw (e, was) o | no n ↦ owns-exclusive (c q) x (W .holds q) (l q n) ]
 
   -- a silent change: each premise is about the two copies alone, or says that the others are low or absent
   pub quiet : {m′ : ℕ} {c′ : ℕ → Copy} (p : ℕ) {k k′ : Copy}
@@ -153,13 +153,13 @@ module _ {m x : ℕ} {c : ℕ → Copy} (W : Word m c x) where
       each o o′ q = elim (ℕ-discrete q p) [ yes e ↦ rw (e, was) o | no n ↦ o′ q n ]
 
   -- the processor that alone has the word stores into its tentative copy: the settled value stays
-  pub tstored : {c′ : ℕ → Copy} (p : ℕ) {s : LineState} {d v : ℕ} {b : Back} {t : Bool}
+  pub stored-tentative : {c′ : ℕ → Copy} (p : ℕ) {s : LineState} {d v : ℕ} {b : Back} {t : Bool}
       → c p ≡ tentative s d b t
       → above s ≡ true
       → c′ p ≡ tentative dirty v b true
       → ((q : ℕ) → q ≢ p → c′ q ≡ c q)
       → Word m c′ x
-  tstored p {s} {d} {v} {b} was u here else =
+  stored-tentative p {s} {d} {v} {b} was u here else =
       let f = rw was at (W .holds p) in
       quiet p was here else (λ h. inl u) (λ h. absurd (true≢false h))
       ((λ h. absurd (true≢false h)), (λ h. refl), back-raise b s dirty x (λ r h. below-dirty r) (f .2)) (λ g h. g h)
@@ -172,7 +172,7 @@ module _ {m x : ℕ} {c : ℕ → Copy} (W : Word m c x) where
       → Word m c′ x
   released p {s} {d} {b} was here else =
       let f = rw was at (W .holds p) in
-      quiet p was here else inl (λ h. absurd (true≢false h)) (f .0 refl) (λ g h. g (dry-back b s x h (f .2)))
+      quiet p was here else inl (λ h. absurd (true≢false h)) (f .0 refl) (λ g h. g (clean-backup b s x h (f .2)))
 
   -- the processor that alone has the word puts a new value into its copy (`s′` DIRTY), or into its copy and memory too
   pub stored : {m′ : ℕ} {c′ : ℕ → Copy} (p : ℕ) {s : LineState} {v : ℕ}
@@ -188,8 +188,8 @@ module _ {m x : ℕ} {c : ℕ → Copy} (W : Word m c x) where
       → c′ p ≡ rolledBack (c p)
       → ((q : ℕ) → q ≢ p → c′ q ≡ c q)
       → Word m c′ x
-  rolled p here else = quiet p refl here else (λ h. inl (roll-excl (c p) x (W .holds p) h)) (λ h. inl (roll-none (c p) h))
-      (roll-fine (c p) x (W .holds p)) (λ g h. g (sym (roll-owns (c p)) ∙ h))
+  rolled p here else = quiet p refl here else (λ h. inl (rolled-exclusive (c p) x (W .holds p) h)) (λ h. inl (rolled-none (c p) h))
+      (rolled-fine (c p) x (W .holds p)) (λ g h. g (sym (rolled-owns (c p)) ∙ h))
 
   pub committedWord : {c′ : ℕ → Copy} (p : ℕ)
       → c′ p ≡ committed (c p)
@@ -203,8 +203,8 @@ module _ {m x : ℕ} {c : ℕ → Copy} (W : Word m c x) where
       go (normal s d) was here = quiet p was here else inl (λ h. absurd (true≢false h)) (rw was at (W .holds p)) (λ g h. g h)
       go (tentative s d b t) was here =
           let f : fine (tentative s d b t) x = rw was at (W .holds p) in
-          changed W here else (λ h q n. W .only p q (rw was h) n) (λ q n h. gone q n h) refl (others s was (dry-value s d b t x f))
-          (λ h o. low-cell′ h o f ∙ sym (dry-value s d b t x f h))
+          changed W here else (λ h q n. W .only p q (rw was h) n) (λ q n h. gone q n h) refl (others s was (clean-value s d b t x f))
+          (λ h o. low-cell′ h o f ∙ sym (clean-value s d b t x f h))
         where
           gone : (q : ℕ) → q ≢ p → exclusive (c q) ≡ true → normal s d ≡ none
           gone q n h = let z : true ≡ false = cc (W .only q p h (λ e. n (sym e))) in absurd (true≢false z)
@@ -215,4 +215,4 @@ module _ {m x : ℕ} {c : ℕ → Copy} (W : Word m c x) where
           others dirty was g q n = rw (W .only p q (rw was) n) tt
 
           low-cell′ : isDirty s ≡ false → ((q : ℕ) → q ≢ p → owns (c q) ≡ false) → fine (tentative s d b t) x → m ≡ x
-          low-cell′ h o f = W .cell (λ q. elim (ℕ-discrete q p) [ yes e ↦ rw (e, was) (dry-back b s x h (f .2)) | no n ↦ o q n ])
+          low-cell′ h o f = W .cell (λ q. elim (ℕ-discrete q p) [ yes e ↦ rw (e, was) (clean-backup b s x h (f .2)) | no n ↦ o q n ])

@@ -6,42 +6,43 @@ use mathlib.Core.List.{List, [], _∷_}
 use Prim.Native.Nat.{ℕ, _≤_}
 use native.Mathlib.Decide.{ℕ-discrete}
 use Rattle.theory.specs.View.{LineState, valid, Back, bare, backup, Copy, none, regular, normal, tentative, above, isTentative, View}
-use Rattle.theory.proofs.OneWord.{not-up}
-use Rattle.theory.proofs.Move.{drop-reg, drop-norm, drop-back, begin-kept, begin-bare, fill-reg, fill-tent, fill-kept, own-tent, own-kept, upgrade}
+use Rattle.theory.proofs.OneWord.{valid-clean}
+use Rattle.theory.proofs.Move.{drop-regular, drop-normal, drop-backup, begin-backed, begin-bare, fill-regular, fill-tentative, fill-backed, own-tentative, own-backed, upgrade}
 use Rattle.theory.specs.Event.{Event, load, drop}
 use Rattle.theory.specs.Change.{Live, At, OnlyProcessor, same, Same}
 use Rattle.theory.proofs.Moves.{Silent, still, move, wake, sees, Shown, loads, stores, writes, treads, twrites, commits, drops, Run, done, quietly, showing, run-then, run-one}
 use Rattle.theory.proofs.Agree.{Agree, rolledBack-tentative}
 use Rattle.theory.specs.Bus
-use Rattle.theory.proofs.Serve.{Far, Gives, Phase, by-grant, by-plain, undone-silent}
+use Rattle.theory.proofs.Serve.{Far, Gives, Phase, by-grant, by-plain, rollback-silent}
 
 -- freeing a line or an entry
 pub freed-silent : {S S′ : View} (p : ℕ) → Bus.Freed p S S′ → Silent S S′
 freed-silent p (Bus.empty s) = still s
-freed-silent p (Bus.reg-out u at was here m) = move p u at refl m was here drop-reg
-freed-silent p (Bus.norm-out u at was here m) = move p u at refl m was here drop-norm
-freed-silent p (Bus.back-out u at was here m) = move p u at refl m was here drop-back
+freed-silent p (Bus.regular-freed u at was here m) = move p u at refl m was here drop-regular
+freed-silent p (Bus.normal-freed u at was here m) = move p u at refl m was here drop-normal
+freed-silent p (Bus.backup-freed u at was here m) = move p u at refl m was here drop-backup
 
 pub at-other : {S S′ : View} {p u : ℕ} → At p u S S′ → (w q : ℕ) → q ≢ p → S′ .copy w q ≡ S .copy w q
 at-other {S} {S′} {p} {u} at w q n = elim (ℕ-discrete w u) [ yes e ↦ rw e (at .proc-else q n) | no i ↦ at .word-else w i q ]
 
 pub freed-other : {S S′ : View} {p : ℕ} → Bus.Freed p S S′ → (w q : ℕ) → q ≢ p → S′ .copy w q ≡ S .copy w q
 freed-other (Bus.empty s) w q n = s .copy-same w q
-freed-other (Bus.reg-out u at was here m) w q n = at-other at w q n
-freed-other (Bus.norm-out u at was here m) w q n = at-other at w q n
-freed-other (Bus.back-out u at was here m) w q n = at-other at w q n
+freed-other (Bus.regular-freed u at was here m) w q n = at-other at w q n
+freed-other (Bus.normal-freed u at was here m) w q n = at-other at w q n
+freed-other (Bus.backup-freed u at was here m) w q n = at-other at w q n
 
 pub freed-live : {S S′ : View} {p : ℕ} → Bus.Freed p S S′ → Live S p → Live S′ p
 freed-live {p = p} (Bus.empty s) l = (s .active-same p ∙ l .0, s .status-same p ∙ l .1)
-freed-live {p = p} (Bus.reg-out u at was here m) l = (at .active-same p ∙ l .0, at .status-same p ∙ l .1)
-freed-live {p = p} (Bus.norm-out u at was here m) l = (at .active-same p ∙ l .0, at .status-same p ∙ l .1)
-freed-live {p = p} (Bus.back-out u at was here m) l = (at .active-same p ∙ l .0, at .status-same p ∙ l .1)
+freed-live {p = p} (Bus.regular-freed u at was here m) l = (at .active-same p ∙ l .0, at .status-same p ∙ l .1)
+freed-live {p = p} (Bus.normal-freed u at was here m) l = (at .active-same p ∙ l .0, at .status-same p ∙ l .1)
+freed-live {p = p} (Bus.backup-freed u at was here m) l = (at .active-same p ∙ l .0, at .status-same p ∙ l .1)
 
 pub freed-none : {S S′ : View} {p : ℕ} → Bus.Freed p S S′ → (w : ℕ) → S .copy w p ≡ none → S′ .copy w p ≡ none
 freed-none {p = p} (Bus.empty s) w e = s .copy-same w p ∙ e
-freed-none {p = p} (Bus.reg-out u at was here m) w e = elim (ℕ-discrete w u) [ yes i ↦ rw i here | no i ↦ at .word-else w i p ∙ e ]
-freed-none {p = p} (Bus.norm-out u at was here m) w e = elim (ℕ-discrete w u) [ yes i ↦ rw i here | no i ↦ at .word-else w i p ∙ e ]
-freed-none {p = p} (Bus.back-out u at was here m) w e = elim (ℕ-discrete w u) [ yes i ↦ absurd (true≢false (cc)) | no i ↦ at .word-else w i p ∙ e ]
+freed-none {p = p} (Bus.regular-freed u at was here m) w e = elim (ℕ-discrete w u) [ yes i ↦ rw i here | no i ↦ at .word-else w i p ∙ e ]
+freed-none {p = p} (Bus.normal-freed u at was here m) w e = elim (ℕ-discrete w u) [ yes i ↦ rw i here | no i ↦ at .word-else w i p ∙ e ]
+freed-none {p = p} (Bus.backup-freed u at was here m) w e =
+    elim (ℕ-discrete w u) [ yes i ↦ absurd (true≢false (cc)) | no i ↦ at .word-else w i p ∙ e ]
 
 far-freed : {S S′ : View} {n p w : ℕ} → Far n p w S → Bus.Freed p S S′ → Far n p w S′
 far-freed {w = w} f d q l i = freed-other d w q i ∙ f q l i
@@ -56,10 +57,10 @@ hits-sees : (k : Copy) (x : ℕ) → Bus.hits k x → sees k x
 hits-sees none x h = h
 hits-sees (regular s d) x h = h
 hits-sees (normal s d) x h = h
-hits-sees (tentative s d b t) x h = (not-up s (h .0), h .1)
+hits-sees (tentative s d b t) x h = (valid-clean s (h .0), h .1)
 
-far-undone : {S S′ : View} {n p w : ℕ} → Far n p w S → Bus.RolledBack p S S′ → Far n p w S′
-far-undone {w = w} f u q l i = u .cache .else w q i ∙ f q l i
+far-rolled : {S S′ : View} {n p w : ℕ} → Far n p w S → Bus.RolledBack p S S′ → Far n p w S′
+far-rolled {w = w} f u q l i = u .cache .else w q i ∙ f q l i
 
 shown : {S S′ : View} {e : Event} → Shown S S′ e → Run S (e ∷ []) S′
 shown s = showing s done
@@ -70,37 +71,37 @@ fetched-run {S} {S′} n p w x f e g =
     let i : g .bus .copy w p ≡ none = s .phase .keeps .copy-kept ∙ freed-none (g .frees) w e in
     quietly (freed-silent p (g .frees))
     (run-then (s .phase .runs)
-    (quietly (move p w (g .at) refl (g .memory-same) i (g .here ∙ ap (regular valid) (sym (g .gives))) (fill-reg (s .gives)))
+    (quietly (move p w (g .at) refl (g .memory-same) i (g .here ∙ ap (regular valid) (sym (g .gives))) (fill-regular (s .gives)))
     (shown (loads p w {x = x} same-refl (rw (g .here) refl)))))
 
 -- STORE's and the transactional steps' preparations
 unheld-run : {S S′ : View} {p w : ℕ} → Bus.Unheld p w S S′ → Run S [] S′
-unheld-run (Bus.un-tent h s) = run-one (still s)
-unheld-run {p = p} (Bus.re-tent h u) = run-one (undone-silent p u)
+unheld-run (Bus.none-held h s) = run-one (still s)
+unheld-run {p = p} (Bus.was-held h u) = run-one (rollback-silent p u)
 
 unheld-other : {S S′ : View} {p w : ℕ} → Bus.Unheld p w S S′ → (q : ℕ) → q ≢ p → S′ .copy w q ≡ S .copy w q
-unheld-other {w = w} (Bus.un-tent h s) q n = s .copy-same w q
-unheld-other {w = w} (Bus.re-tent h u) q n = u .cache .else w q n
+unheld-other {w = w} (Bus.none-held h s) q n = s .copy-same w q
+unheld-other {w = w} (Bus.was-held h u) q n = u .cache .else w q n
 
 unnormal-run : {S S′ : View} {p w : ℕ} → Bus.Unnormal p w S S′ → Run S [] S′
-unnormal-run (Bus.un-norm h s) = run-one (still s)
-unnormal-run {p = p} {w = w} (Bus.re-norm at was here m) = run-one (move p w at refl m was here drop-norm)
+unnormal-run (Bus.none-normal h s) = run-one (still s)
+unnormal-run {p = p} {w = w} (Bus.was-normal at was here m) = run-one (move p w at refl m was here drop-normal)
 
 unnormal-other : {S S′ : View} {p w : ℕ} → Bus.Unnormal p w S S′ → (q : ℕ) → q ≢ p → S′ .copy w q ≡ S .copy w q
-unnormal-other {w = w} (Bus.un-norm h s) q n = s .copy-same w q
-unnormal-other (Bus.re-norm at was here m) q n = at .proc-else q n
+unnormal-other {w = w} (Bus.none-normal h s) q n = s .copy-same w q
+unnormal-other (Bus.was-normal at was here m) q n = at .proc-else q n
 
 unregular-run : {S S′ : View} {p w : ℕ} → Bus.Unregular p w S S′ → Run S [] S′
-unregular-run (Bus.un-reg h s) = run-one (still s)
-unregular-run {p = p} {w = w} (Bus.re-reg at was here m) = run-one (move p w at refl m was here drop-reg)
+unregular-run (Bus.none-regular h s) = run-one (still s)
+unregular-run {p = p} {w = w} (Bus.was-regular at was here m) = run-one (move p w at refl m was here drop-regular)
 
 unregular-other : {S S′ : View} {p w : ℕ} → Bus.Unregular p w S S′ → (q : ℕ) → q ≢ p → S′ .copy w q ≡ S .copy w q
-unregular-other {w = w} (Bus.un-reg h s) q n = s .copy-same w q
-unregular-other (Bus.re-reg at was here m) q n = at .proc-else q n
+unregular-other {w = w} (Bus.none-regular h s) q n = s .copy-same w q
+unregular-other (Bus.was-regular at was here m) q n = at .proc-else q n
 
 unregular-live : {S S′ : View} {p w : ℕ} → Bus.Unregular p w S S′ → Live S p → Live S′ p
-unregular-live {p = p} (Bus.un-reg h s) l = (s .active-same p ∙ l .0, s .status-same p ∙ l .1)
-unregular-live {p = p} (Bus.re-reg at was here m) l = (at .active-same p ∙ l .0, at .status-same p ∙ l .1)
+unregular-live {p = p} (Bus.none-regular h s) l = (s .active-same p ∙ l .0, s .status-same p ∙ l .1)
+unregular-live {p = p} (Bus.was-regular at was here m) l = (at .active-same p ∙ l .0, at .status-same p ∙ l .1)
 
 -- a phase of a live transaction: p stays live, and the others' copies of w stay
 pub record Live→ (p w : ℕ) (S S′ : View) : Type 0 where
@@ -113,7 +114,7 @@ at-live {p = p} at l = (at .active-same p ∙ l .0, at .status-same p ∙ l .1)
 
 begun-run : {S S′ : View} (p w : ℕ) → Live S p → Bus.Begun p w S S′ → Live→ p w S S′
 begun-run p w l (Bus.with-backup fr was at here i m) = record {
-  runs = quietly (freed-silent p fr) (run-one (move p w at refl m was here (begin-kept (freed-live fr l) i)));
+  runs = quietly (freed-silent p fr) (run-one (move p w at refl m was here (begin-backed (freed-live fr l) i)));
   lives = at-live at (freed-live fr l);
   others = λ q n. at .proc-else q n ∙ freed-other fr w q n;
 }
@@ -157,17 +158,17 @@ held-run {S} {S′} k n p w f l (Bus.misses {b} {S₁} {S₂} {S₃} was fr fr�
   where
     fills : (k : Bus.Kind) → Gives k (S₃ .copy w) p → S₃ .copy w p ≡ none → Live S₃ p → (b ≡ bare) ⊎ (b ≡ backup (Bus.granted k) (S₃ .memory w))
         → S′ .copy w p ≡ tentative (Bus.granted k) (S₃ .memory w) b false → Silent S₃ S′
-    fills Bus.reading g i l (inl e) here = move p w at refl m i (rw e at here) (fill-tent l g)
-    fills Bus.reading g i l (inr e) here = move p w at refl m i (rw e at here) (fill-kept l g)
-    fills Bus.owning g i l (inl e) here = move p w at refl m i (rw e at here) (own-tent l g)
-    fills Bus.owning g i l (inr e) here = move p w at refl m i (rw e at here) (own-kept l g)
+    fills Bus.reading g i l (inl e) here = move p w at refl m i (rw e at here) (fill-tentative l g)
+    fills Bus.reading g i l (inr e) here = move p w at refl m i (rw e at here) (fill-backed l g)
+    fills Bus.owning g i l (inl e) here = move p w at refl m i (rw e at here) (own-tentative l g)
+    fills Bus.owning g i l (inr e) here = move p w at refl m i (rw e at here) (own-backed l g)
 
-undone-bare : {S S′ : View} (p : ℕ) → Bus.RolledBack p S S′ → (w : ℕ) → isTentative (S′ .copy w p) ≡ false
-undone-bare {S} p u w = rw (u .cache .here w) (rolledBack-tentative (S .copy w p))
+rollback-bare : {S S′ : View} (p : ℕ) → Bus.RolledBack p S S′ → (w : ℕ) → isTentative (S′ .copy w p) ≡ false
+rollback-bare {S} p u w = rw (u .cache .here w) (rolledBack-tentative (S .copy w p))
 
 -- rolled back, p shows only that its transaction is lost
 lost : {S S′ : View} (p : ℕ) → Bus.RolledBack p S S′ → Run S (drop p ∷ []) S′
-lost p u = quietly (undone-silent p u) (shown (drops p (undone-bare p u) cache-refl))
+lost p u = quietly (rollback-silent p u) (shown (drops p (rollback-bare p u) cache-refl))
 
 denied-run : {S S′ : View} (k : Bus.Kind) (p w : ℕ) → Bus.Denied k p w S S′ → Run S (drop p ∷ []) S′
 denied-run k p w (Bus.no-room was u) = lost p u
@@ -182,11 +183,12 @@ dead-bare {S} p A d w = go (isTentative (S .copy w p)) refl
     go true e = absurd (true≢false (sym (A .live w p e .1) ∙ d))
     go false e = refl
 
-held-up : {S S′ : View} (n p w : ℕ) {s : LineState} {x : ℕ} {b : Back} {t : Bool} → Bus.Held Bus.owning n p w S S′ → S′ .copy w p ≡ tentative s x b t
+held-above : {S S′ : View} (n p w : ℕ) {s : LineState} {x : ℕ} {b : Back} {t : Bool} → Bus.Held Bus.owning n p w S S′
+    → S′ .copy w p ≡ tentative s x b t
     → above s ≡ true
-held-up n p w (Bus.has-it was en i) h = cc (i .copy-same w p)
-held-up n p w (Bus.raises was g at here m) h = cc
-held-up n p w (Bus.misses was fr fr′ g at bk here m) h = cc
+held-above n p w (Bus.has-it was en i) h = cc (i .copy-same w p)
+held-above n p w (Bus.raises was g at here m) h = cc
+held-above n p w (Bus.misses was fr fr′ g at bk here m) h = cc
 
 module _ {S : View} {M : ℕ → ℕ} (n : ℕ) (A : Agree S M) (within : (w p : ℕ) → n ≤ p → S .copy w p ≡ none) where
   far : (p w : ℕ) → Far n p w S
@@ -195,10 +197,10 @@ module _ {S : View} {M : ℕ → ℕ} (n : ℕ) (A : Agree S M) (within : (w p :
   pub step-run : {S′ : View} {es : List Event} → Bus.Step n S S′ es → Run S es S′
   step-run (Bus.load-hit {p} {w} {x} h s) = shown (loads p w {x = x} s (hits-sees (S .copy w p) x h))
   step-run (Bus.load-back {p} {w} {x} was u ud) =
-      quietly (undone-silent p ud) (shown (loads p w {x = x} same-refl (rw (ud .cache .here w, was) refl)))
+      quietly (rollback-silent p ud) (shown (loads p w {x = x} same-refl (rw (ud .cache .here w, was) refl)))
   step-run (Bus.load-miss {p} {w} {x} was g) = fetched-run n p w x (far p w) was g
   step-run (Bus.load-bare {p} {w} {x} was u ud g) =
-      quietly (undone-silent p ud) (fetched-run n p w x (far-undone (far p w) ud) (ud .cache .here w ∙ rw was) g)
+      quietly (rollback-silent p ud) (fetched-run n p w x (far-rolled (far p w) ud) (ud .cache .here w ∙ rw was) g)
   step-run (Bus.store-hit {p} {w} a b was u at here m) =
       run-then (unheld-run a) (run-then (unnormal-run b) (shown (stores p w at was u here)))
   step-run (Bus.store-through {p} {w} a b was g at here m) =
@@ -216,11 +218,11 @@ module _ {S : View} {M : ℕ → ℕ} (n : ℕ) (A : Agree S M) (within : (w p :
   step-run (Bus.puts {p} {w} o h was at here m) =
       let a = opened-run p w o in
       run-then (a .runs) (run-then (held-run Bus.owning n p w (far-live (far p w) a) (a .lives) h)
-      (shown (twrites p w at was (held-up n p w h was) here m)))
+      (shown (twrites p w at was (held-above n p w h was) here m)))
   step-run (Bus.fails {p} {w} k o d) = run-then (opened-run p w o .runs) (denied-run k p w d)
   step-run (Bus.dead {p} z k) = shown (drops p (dead-bare p A z) (k .cache))
   step-run (Bus.commit-yes {p} z c f g) = shown (commits p z c)
   step-run (Bus.over {p} z e) = shown (drops p (dead-bare p A z) (e .cache))
-  step-run (Bus.aborts {p} u e) = quietly (undone-silent p u) (shown (drops p (undone-bare p u) (e .cache)))
+  step-run (Bus.aborts {p} u e) = quietly (rollback-silent p u) (shown (drops p (rollback-bare p u) (e .cache)))
   step-run (Bus.validate-yes {p} z s) = run-one (still s)
   step-run (Bus.interrupts {p} u) = lost p u

@@ -8,7 +8,7 @@ use native.Mathlib.Decide.{ℕ-discrete, decLt}
 use native.Mathlib.Omega.{arith}
 use Rattle.theory.specs.View.{valid, reserved, dirty, bare, backup, Copy, none, regular, normal, tentative, exclusive, rolledBack, View}
 use Rattle.theory.proofs.OneWord.{Low, Alone}
-use Rattle.theory.proofs.Move.{drop-reg, drop-norm, lower-reg, lower-norm}
+use Rattle.theory.proofs.Move.{drop-regular, drop-normal, lower-regular, lower-normal}
 use Rattle.theory.specs.Change.{At, Same}
 use Rattle.theory.proofs.Moves.{Silent, still, move, rollback, Run, done, run-then, run-one}
 use Rattle.theory.proofs.Agree.{rolledBack-tentative}
@@ -48,14 +48,14 @@ snoop-silent {S} {S′} k p w q (Bus.other n at e m) h = go k (S .copy w q) refl
     go : (k : Bus.Kind) (c : Copy) → S .copy w q ≡ c → Bus.refuses k c ≡ false → S′ .copy w q ≡ Bus.snoops k c
         → S′ .memory w ≡ Bus.supplied c (S .memory w) → Silent S S′
     go Bus.reading none i r e m = still (at-still q w at (e ∙ sym i) m)
-    go Bus.reading (regular s d) i r e m = move q w at refl m i e lower-reg
-    go Bus.reading (normal s d) i r e m = move q w at refl m i e lower-norm
+    go Bus.reading (regular s d) i r e m = move q w at refl m i e lower-regular
+    go Bus.reading (normal s d) i r e m = move q w at refl m i e lower-normal
     go Bus.reading (tentative valid d b t) i r e m = still (at-still q w at (e ∙ sym i) m)
     go Bus.reading (tentative reserved d b t) i r e m = absurd (true≢false r)
     go Bus.reading (tentative dirty d b t) i r e m = absurd (true≢false r)
     go Bus.owning none i r e m = still (at-still q w at (e ∙ sym i) m)
-    go Bus.owning (regular s d) i r e m = move q w at refl m i e drop-reg
-    go Bus.owning (normal s d) i r e m = move q w at refl m i e drop-norm
+    go Bus.owning (regular s d) i r e m = move q w at refl m i e drop-regular
+    go Bus.owning (normal s d) i r e m = move q w at refl m i e drop-normal
     go Bus.owning (tentative s d b t) i r e m = absurd (true≢false r)
 
 module _ {f : Copy → Copy} {g : Copy → ℕ → ℕ} {p w q : ℕ} {S S′ : View} where
@@ -111,11 +111,11 @@ pub record Served (k : Bus.Kind) (n p w : ℕ) (S S′ : View) : Type 0 where
   pub phase : Phase n p w S S′
   pub gives : Gives k (S′ .copy w) p
 
-excl-shared : (c : Copy) → exclusive (Bus.shared c) ≡ false
-excl-shared none = refl
-excl-shared (regular s d) = refl
-excl-shared (normal s d) = refl
-excl-shared (tentative s d b t) = refl
+shared-exclusive : (c : Copy) → exclusive (Bus.shared c) ≡ false
+shared-exclusive none = refl
+shared-exclusive (regular s d) = refl
+shared-exclusive (normal s d) = refl
+shared-exclusive (tentative s d b t) = refl
 
 taken-none : (c : Copy) → Bus.taken c ≡ none
 taken-none none = refl
@@ -135,20 +135,20 @@ served {S} {S′} k n p w f a = record { phase = a .phase; gives = go k (λ q l 
   where
     go : (k : Bus.Kind) → ((q : ℕ) → q < n → q ≢ p → S′ .copy w q ≡ Bus.snoops k (S .copy w q)) → Gives k (S′ .copy w) p
     go Bus.reading h =
-        λ q i. elim (decLt q n) [ yes l ↦ rw (h q l i) (excl-shared (S .copy w q)) | no l ↦ rw (far-after f (a .phase) q (omega arith) i) ]
+        λ q i. elim (decLt q n) [ yes l ↦ rw (h q l i) (shared-exclusive (S .copy w q)) | no l ↦ rw (far-after f (a .phase) q (omega arith) i) ]
     go Bus.owning h = λ q i. elim (decLt q n) [ yes l ↦ h q l i ∙ taken-none (S .copy w q) | no l ↦ far-after f (a .phase) q (omega arith) i ]
 
 pub by-grant : {S S′ : View} (k : Bus.Kind) (n p w : ℕ) → Far n p w S → Bus.Granted k n p w S S′ → Served k n p w S S′
 by-grant k n p w f g = served k n p w f (asked k n p w (g .nobody) (g .asks))
 
 -- rollbacks of others
-pub undone-silent : {S S′ : View} (p : ℕ) → Bus.RolledBack p S S′ → Silent S S′
-undone-silent p u = rollback p (u .cache) (u .status)
+pub rollback-silent : {S S′ : View} (p : ℕ) → Bus.RolledBack p S S′ → Silent S S′
+rollback-silent p u = rollback p (u .cache) (u .status)
 
 module _ {so : Copy → Bool} {p w q : ℕ} {S S′ : View} where
   rollif-silent : Bus.RollIf so p w q S S′ → Silent S S′
   rollif-silent (Bus.spared h s) = still s
-  rollif-silent (Bus.rolls-back n h u) = undone-silent q u
+  rollif-silent (Bus.rolls-back n h u) = rollback-silent q u
 
   rollif-else : Bus.RollIf so p w q S S′ → (r : ℕ) → r ≢ q → S′ .copy w r ≡ S .copy w r
   rollif-else (Bus.spared h s) r i = s .copy-same w r

@@ -7,7 +7,7 @@ use Prim.Native.Nat.{ℕ, zero, suc, _≤_, _<_}
 use native.Mathlib.Decide.{ℕ-discrete, decLt}
 use native.Mathlib.Omega.{arith}
 use Rattle.theory.specs.View.{LineState, Back, bare, backup, Copy, none, regular, normal, tentative, above, isDirty, below, isTentative, exclusive, owns, fineBack, fine, has, Word, View}
-use Rattle.theory.proofs.OneWord.{owns-excl, dry-back, dry-value, below-up, below-dry, wet-up}
+use Rattle.theory.proofs.OneWord.{owns-exclusive, clean-backup, clean-value, below-above, below-clean, dirty-above}
 use Rattle.theory.specs.Event.{Event}
 use Rattle.theory.specs.Change.{Live}
 use Rattle.theory.proofs.Moves.{Silent, Run}
@@ -92,8 +92,8 @@ pub record Coherent (n : ℕ) (S : View) : Type 0 where
   pub within : Within n S
 
 -- a word that somebody has, and has not DIRTY, is in memory
-pub dry-cell : {m x : ℕ} {c : ℕ → Copy} → Word m c x → (p : ℕ) {k : Copy} → c p ≡ k → has k ≡ true → owns k ≡ false → m ≡ x
-dry-cell {m} {x} {c} W p {k} was h o = W .cell each
+pub clean-cell : {m x : ℕ} {c : ℕ → Copy} → Word m c x → (p : ℕ) {k : Copy} → c p ≡ k → has k ≡ true → owns k ≡ false → m ≡ x
+clean-cell {m} {x} {c} W p {k} was h o = W .cell each
   where
     each : (q : ℕ) → owns (c q) ≡ false
     each q = go (ℕ-discrete q p) (exclusive (c q)) refl
@@ -101,7 +101,7 @@ dry-cell {m} {x} {c} W p {k} was h o = W .cell each
         go : Dec (q ≡ p) → (b : Bool) → exclusive (c q) ≡ b → owns (c q) ≡ false
         go (yes e) b i = rw (e, was) o
         go (no n) true i = absurd (true≢false (cc (W .only q p i (λ e. n (sym e)))))
-        go (no n) false i = owns-excl (c q) x (W .holds q) i
+        go (no n) false i = owns-exclusive (c q) x (W .holds q) i
 
 pub agree→coherent : {S : View} {M : ℕ → ℕ} (n : ℕ) → Agree S M → Within n S → Coherent n S
 agree→coherent {S} {M} n A b = record {
@@ -124,12 +124,12 @@ agree→coherent {S} {M} n A b = record {
 
     eq : (w p : ℕ) (k : Copy) → S .copy w p ≡ k → fine k (M w) → agrees k (S .memory w)
     eq w p none e f = tt
-    eq w p (regular s d) e f = λ h. f ∙ sym (dry-cell (A .words w) p e refl h)
-    eq w p (normal s d) e f = λ h. f ∙ sym (dry-cell (A .words w) p e refl h)
-    eq w p (tentative s d bare t) e f = ((λ h. dry-value s d bare t (M w) f h ∙ sym (dry-cell (A .words w) p e refl refl)), tt)
+    eq w p (regular s d) e f = λ h. f ∙ sym (clean-cell (A .words w) p e refl h)
+    eq w p (normal s d) e f = λ h. f ∙ sym (clean-cell (A .words w) p e refl h)
+    eq w p (tentative s d bare t) e f = ((λ h. clean-value s d bare t (M w) f h ∙ sym (clean-cell (A .words w) p e refl refl)), tt)
     eq w p (tentative s d (backup r v) t) e f = (
-      (λ h. dry-value s d (backup r v) t (M w) f h ∙ sym (dry-cell (A .words w) p e refl (dry-back (backup r v) s (M w) h (f .2)))),
-      (λ h. f .2 .0 ∙ sym (dry-cell (A .words w) p e refl h)),
+      (λ h. clean-value s d (backup r v) t (M w) f h ∙ sym (clean-cell (A .words w) p e refl (clean-backup (backup r v) s (M w) h (f .2)))),
+      (λ h. f .2 .0 ∙ sym (clean-cell (A .words w) p e refl h)),
     )
 
 -- the view is taken with every DIRTY tentative copy as stored to
@@ -139,12 +139,12 @@ coarse (regular s d) = Unit {0}
 coarse (normal s d) = Unit {0}
 coarse (tentative s d b t) = t ≡ isDirty s
 
-owns-up : (k : Copy) → ordered k → owns k ≡ true → exclusive k ≡ true
-owns-up none o h = h
-owns-up (regular s d) o h = wet-up s h
-owns-up (normal s d) o h = wet-up s h
-owns-up (tentative s d bare t) o h = absurd (false≢true h)
-owns-up (tentative s d (backup r e) t) o h = below-up r s (wet-up r h) o
+owns-above : (k : Copy) → ordered k → owns k ≡ true → exclusive k ≡ true
+owns-above none o h = h
+owns-above (regular s d) o h = dirty-above s h
+owns-above (normal s d) o h = dirty-above s h
+owns-above (tentative s d bare t) o h = absurd (false≢true h)
+owns-above (tentative s d (backup r e) t) o h = below-above r s (dirty-above r h) o
 
 settled-mem : (n m : ℕ) (c : ℕ → Copy) → ((p : ℕ) → owns (c p) ≡ false) → settledBy n m c ≡ m
 unfolding settledBy
@@ -183,7 +183,7 @@ coherent→agree {S} n C co =
     -- an owner's data is the settled value
     wetly : (w p : ℕ) {k : Copy} → S .copy w p ≡ k → owns k ≡ true → baseData k ≡ settled n S w
     wetly w p e h = let h′ = rw (← e) at h in rw (← e)
-        (sym (settled-own n (S .memory w) (S .copy w) p (inside w p h′) h′ (λ q. C .only w p q (owns-up (S .copy w p) (C .order w p) h′))))
+        (sym (settled-own n (S .memory w) (S .copy w) p (inside w p h′) h′ (λ q. C .only w p q (owns-above (S .copy w p) (C .order w p) h′))))
 
     -- and without one the memory has it
     dryly : (w p : ℕ) {k : Copy} → S .copy w p ≡ k → has k ≡ true → owns k ≡ false → S .memory w ≡ settled n S w
@@ -194,7 +194,7 @@ coherent→agree {S} n C co =
           where
             go : Dec (q ≡ p) → (b : Bool) → owns (S .copy w q) ≡ b → owns (S .copy w q) ≡ false
             go (yes i) b j = rw (i, e) o
-            go (no i) true j = absurd (true≢false (cc (C .only w q p (owns-up (S .copy w q) (C .order w q) j) (λ i′. i (sym i′)))))
+            go (no i) true j = absurd (true≢false (cc (C .only w q p (owns-above (S .copy w q) (C .order w q) j) (λ i′. i (sym i′)))))
             go (no i) false j = j
 
     hold : (w p : ℕ) (k : Copy) → S .copy w p ≡ k → ordered k → agrees k (S .memory w) → coarse k → fine k (settled n S w)
@@ -204,7 +204,7 @@ coherent→agree {S} n C co =
     hold w p (tentative s d bare t) e o a g =
         ((λ h. a .0 (sym g ∙ h) ∙ dryly w p e refl refl), (λ h. sym g ∙ h), tt)
     hold w p (tentative s d (backup r v) t) e o a g = (
-      (λ h. a .0 (sym g ∙ h) ∙ dryly w p e refl (below-dry r s (sym g ∙ h) o)),
+      (λ h. a .0 (sym g ∙ h) ∙ dryly w p e refl (below-clean r s (sym g ∙ h) o)),
       (λ h. sym g ∙ h),
       (by (isDirty r) (λ h. wetly w p e h) (λ h. a .1 h ∙ dryly w p e refl h), o),
     )
@@ -226,7 +226,8 @@ bare-inv S z = record {
   logs = λ p h. good-empty (λ w. rw (z w p));
 }
 
--- THE THEOREM. What a machine of n processors shows, from empty caches, the plain machine shows; and at the end each word's settled value is the plain memory's
+-- THE THEOREM. What a machine of n processors shows, from empty caches, the plain machine shows; at the end each word's settled value is the
+-- plain memory's.
 pub serializable : (n : ℕ) {es : List Event} {S S′ : View} → Bare S → Run S es S′ → Within n S′
     → Serial es (unlogged (S .memory)) × Opaque es (unlogged (S .memory))
     × ((w : ℕ) → settled n S′ w ≡ after es (unlogged (S .memory)) .val w) × Coherent n S′

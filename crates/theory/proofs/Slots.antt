@@ -5,7 +5,7 @@ use mathlib.Core.Bool.{Bool, true, false, true≢false, false≢true}
 use Prim.Native.Nat.{ℕ, _<_}
 use native.Mathlib.Decide.{ℕ-discrete}
 use Rattle.theory.specs.View.{LineState, Back, bare, backup, Copy, none, normal, tentative}
-use Rattle.theory.proofs.Cache.{Slot, vacant, slotNormal, slotBackup, slotTentative, Line, blank, filled, is-self, is-other, is-true, mainOn, backOn, tentOn, regOn, regCopy, slotCopy, Backs, backed, unbacked, Has, in-line, in-slot, nowhere, backOf, look, back-is, look-is, Tidy, looks, Off, Calm, look-calm, tidy-shrink, main-tent, not-true}
+use Rattle.theory.proofs.Cache.{Slot, vacant, slotNormal, slotBackup, slotTentative, Line, blank, filled, is-self, is-other, is-true, mainOn, backOn, tentativeOn, regularOn, lineCopy, slotCopy, Backs, backed, unbacked, Has, in-line, in-slot, nowhere, backOf, look, back-is, look-is, Tidy, looks, Off, Calm, look-calm, tidy-shrink, main-tentative, not-true}
 
 -- a slot that has nothing of any word but u
 abbrev pub Of : ℕ → Slot → Type 0
@@ -38,11 +38,11 @@ main-back u w (slotTentative s v d t) h = refl
 
 -- what a processor that has nothing of a word, or a tentative entry with no backup, has in its slots
 module _ (E : ℕ) (home : ℕ → ℕ) (slot : ℕ → Slot) (line : ℕ → Line) where
-  has-none : (w : ℕ) (k : Copy) → Has E home slot line w k → k ≡ none → (regOn w (line (home w)) ≡ false)
+  has-none : (w : ℕ) (k : Copy) → Has E home slot line w k → k ≡ none → (regularOn w (line (home w)) ≡ false)
       × ((i : ℕ) → i < E → mainOn w (slot i) ≡ false)
   has-none w k (in-line h e) n = absurd (go (line (home w)) h (e ∙ n))
     where
-      go : (x : Line) → regOn w x ≡ true → regCopy x ≡ none → ⊥
+      go : (x : Line) → regularOn w x ≡ true → lineCopy x ≡ none → ⊥
       go blank h e = false≢true h
       go (filled s u d) h e = let z : true ≡ false = cc in true≢false z
   has-none w k (in-slot {b = b} i l r m bk e) n = absurd (go (slot i) m (e ∙ n))
@@ -54,7 +54,7 @@ module _ (E : ℕ) (home : ℕ → ℕ) (slot : ℕ → Slot) (line : ℕ → Li
       go (slotTentative s u d t) h e = let z : true ≡ false = cc in true≢false z
   has-none w k (nowhere r g y) n = (r, g)
 
-  pub look-none : (w : ℕ) → look E home slot line w ≡ none → (regOn w (line (home w)) ≡ false) × ((i : ℕ) → i < E → mainOn w (slot i) ≡ false)
+  pub look-none : (w : ℕ) → look E home slot line w ≡ none → (regularOn w (line (home w)) ≡ false) × ((i : ℕ) → i < E → mainOn w (slot i) ≡ false)
   look-none w e = has-none w (look E home slot line w) (look-is E home slot line w) e
 
   module _ (T : Tidy E home slot line) (i : ℕ) (l : i < E) where
@@ -84,7 +84,7 @@ module _ (E : ℕ) (home : ℕ → ℕ) (slot slot′ : ℕ → Slot) (line : �
 
   -- y claims no more than x, and keeps a tentative entry
   pub tidy-one : ((w : ℕ) → mainOn w y ≡ true → mainOn w x ≡ true) → ((w : ℕ) → backOn w y ≡ true → backOn w x ≡ true)
-      → ((w : ℕ) → tentOn w x ≡ true → tentOn w y ≡ true) → Tidy E home slot′ line
+      → ((w : ℕ) → tentativeOn w x ≡ true → tentativeOn w y ≡ true) → Tidy E home slot′ line
   tidy-one m b t = tidy-shrink E home slot slot′ line line T
       (λ j w l′ h. elim (ℕ-discrete j i) [ yes e ↦ rw (e, was) (m w (rw (e, here) at h)) | no n ↦ rw (else j n) at h ])
       (λ j w l′ h. elim (ℕ-discrete j i) [ yes e ↦ rw (e, was) (b w (rw (e, here) at h)) | no n ↦ rw (else j n) at h ])
@@ -118,7 +118,7 @@ module _ (E : ℕ) (home : ℕ → ℕ) (slot slot′ : ℕ → Slot) (line : �
         × (look E home slot′ line u ≡ tentative s d bare t)
     look-backout = go (slot i′) refl (p .2)
       where
-        p : (j : ℕ) × (j < E) × (tentOn u (slot j) ≡ true)
+        p : (j : ℕ) × (j < E) × (tentativeOn u (slot j) ≡ true)
         p = T .paired u i l (rw was (is-self u))
 
         i′ : ℕ
@@ -128,7 +128,7 @@ module _ (E : ℕ) (home : ℕ → ℕ) (slot slot′ : ℕ → Slot) (line : �
         off j l′ = elim (ℕ-discrete j i)
             [ yes z ↦ rw (z, here) | no n ↦ not-true _ (λ h. n (T .backs u j i l′ l (rw (else j n) at h) (rw was (is-self u)))) ]
 
-        go : (x : Slot) → slot i′ ≡ x → tentOn u x ≡ true
+        go : (x : Slot) → slot i′ ≡ x → tentativeOn u x ≡ true
             → (s : LineState) × (d : ℕ) × (t : Bool) × (look E home slot line u ≡ tentative s d (backup r e) t)
             × (look E home slot′ line u ≡ tentative s d bare t)
         go vacant z h = absurd (false≢true h)
@@ -146,12 +146,12 @@ module _ (E : ℕ) (home : ℕ → ℕ) (slot slot′ : ℕ → Slot) (line : �
 
   -- a word's own entry changes and stays that word's own: its state and data change, or NORMAL becomes tentative
   module _ (u : ℕ) {x y : Slot} (was : slot i ≡ x) (here : slot′ i ≡ y) (xu : wordIs u x) (yu : wordIs u y)
-      (mx : mainOn u x ≡ true) (my : mainOn u y ≡ true) (tk : tentOn u x ≡ true → tentOn u y ≡ true) where
+      (mx : mainOn u x ≡ true) (my : mainOn u y ≡ true) (tk : tentativeOn u x ≡ true → tentativeOn u y ≡ true) where
     pub tidy-turn : Tidy E home slot′ line
     tidy-turn = tidy-one E home slot slot′ line T u i l x y was here else xu yu
         (λ w h. rw (main-word u y yu w h) mx)
         (λ w h. absurd (true≢false (sym h ∙ main-back u w y my)))
-        (λ w h. let e = main-word u x xu w (main-tent w x h) in rw e (tk (rw e at h)))
+        (λ w h. let e = main-word u x xu w (main-tentative w x h) in rw e (tk (rw e at h)))
 
     turn-back : (b : Back) → Backs E home slot line u b → Backs E home slot′ line u b
     turn-back b (backed j l′ h e) =
@@ -173,7 +173,7 @@ module _ (E : ℕ) (home : ℕ → ℕ) (slot slot′ : ℕ → Slot) (line : �
     no-main = look-none E home slot line u free .1
 
     no-back : (j : ℕ) → j < E → backOn u (slot j) ≡ false
-    no-back j l′ = not-true _ (λ h. let x = T .paired u j l′ h in true≢false (sym (main-tent u (slot (x .0)) (x .2)) ∙ no-main (x .0) (x .1)))
+    no-back j l′ = not-true _ (λ h. let x = T .paired u j l′ h in true≢false (sym (main-tentative u (slot (x .0)) (x .2)) ∙ no-main (x .0) (x .1)))
 
     pub tidy-in : Tidy E home slot′ line
     tidy-in = record { mains = ms; backs = bs; apart = ap′; paired = pr }
@@ -199,10 +199,10 @@ module _ (E : ℕ) (home : ℕ → ℕ) (slot slot′ : ℕ → Slot) (line : �
         bs : (w j j′ : ℕ) → j < E → j′ < E → backOn w (slot′ j) ≡ true → backOn w (slot′ j′) ≡ true → j ≡ j′
         bs w j j′ l₁ l₂ h h′ = T .backs w j j′ l₁ l₂ (back-in w j h) (back-in w j′ h′)
 
-        ap′ : (w j : ℕ) → j < E → mainOn w (slot′ j) ≡ true → regOn w (line (home w)) ≡ false
+        ap′ : (w j : ℕ) → j < E → mainOn w (slot′ j) ≡ true → regularOn w (line (home w)) ≡ false
         ap′ w j l₁ h = elim (main-in w j h) [ inl a ↦ rw (a .1) (look-none E home slot line u free .0) | inr b ↦ T .apart w j l₁ (b .1) ]
 
-        pr : (w j : ℕ) → j < E → backOn w (slot′ j) ≡ true → (j′ : ℕ) × (j′ < E) × (tentOn w (slot′ j′) ≡ true)
+        pr : (w j : ℕ) → j < E → backOn w (slot′ j) ≡ true → (j′ : ℕ) × (j′ < E) × (tentativeOn w (slot′ j′) ≡ true)
         pr w j l₁ h =
             let x = T .paired w j l₁ (back-in w j h) in
             let n : x .0 ≢ i = λ q. false≢true (rw (q, was) at (x .2)) in
@@ -245,10 +245,10 @@ module _ (E : ℕ) (home : ℕ → ℕ) (slot slot′ : ℕ → Slot) (line : �
             go (inr a) (inl b) = absurd (true≢false (sym (a .1) ∙ rw (b .1) (alone j l₁)))
             go (inr a) (inr b) = T .backs w j j′ l₁ l₂ (a .1) (b .1)
 
-        pr : (w j : ℕ) → j < E → backOn w (slot′ j) ≡ true → (j′ : ℕ) × (j′ < E) × (tentOn w (slot′ j′) ≡ true)
+        pr : (w j : ℕ) → j < E → backOn w (slot′ j) ≡ true → (j′ : ℕ) × (j′ < E) × (tentativeOn w (slot′ j′) ≡ true)
         pr w j l₁ h = go (back-in w j h)
           where
-            go : ((j ≡ i) × (w ≡ u)) ⊎ ((j ≢ i) × (backOn w (slot j) ≡ true)) → (j′ : ℕ) × (j′ < E) × (tentOn w (slot′ j′) ≡ true)
+            go : ((j ≡ i) × (w ≡ u)) ⊎ ((j ≢ i) × (backOn w (slot j) ≡ true)) → (j′ : ℕ) × (j′ < E) × (tentativeOn w (slot′ j′) ≡ true)
             go (inl a) = (i′, l′, rw (a .1, else i′ apart′, main) (is-self u))
             go (inr b) =
                 let x = T .paired w j l₁ (b .1) in

@@ -7,8 +7,8 @@ use Prim.Native.Nat.{ℕ, _<_}
 use native.Mathlib.Decide.{ℕ-discrete}
 use Rattle.theory.specs.View.{LineState, Back, bare, backup, Copy, none, regular, normal, tentative, wrote, rolledBack, committed, View}
 use Rattle.theory.specs.Change.{At, OnlyProcessor, same, Same}
-use Rattle.theory.proofs.Cache.{Slot, vacant, slotNormal, slotBackup, slotTentative, Line, blank, filled, mainOn, backOn, tentOn, slotCopy, Backs, look, Tidy, look-calm, tidy-shrink}
-use Rattle.theory.proofs.AllSlots.{slotRollback, slotCommit, tidy-settle, look-settle, tidy-roll, look-roll}
+use Rattle.theory.proofs.Cache.{Slot, vacant, slotNormal, slotBackup, slotTentative, Line, blank, filled, mainOn, backOn, tentativeOn, slotCopy, Backs, look, Tidy, look-calm, tidy-shrink}
+use Rattle.theory.proofs.AllSlots.{slotRollback, slotCommit, tidy-committed, look-committed, tidy-rolled, look-rolled}
 use Rattle.theory.proofs.Slots.{wordIs, look-normal, look-else, tidy-out, look-out, tidy-backout, look-backout, tidy-turn, look-turn, tidy-in, look-in, tidy-back, look-back}
 use Rattle.theory.proofs.Lines.{lineIs, tidy-line, line-else, look-blank, look-filled}
 use Rattle.theory.specs.Bus
@@ -63,9 +63,9 @@ module _ (E : ℕ) (home : ℕ → ℕ) where
     pub else : (j : ℕ) → j ≢ i → S′ .slot p j ≡ S .slot p j
     pub slots : (q j : ℕ) → q ≢ p → j < E → S′ .slot q j ≡ S .slot q j
     pub lines : (q h : ℕ) → S′ .line q h ≡ S .line q h
-    pub mems : (u : ℕ) → u ≢ w → S′ .memory u ≡ S .memory u
-    pub acts : (q : ℕ) → S′ .active q ≡ S .active q
-    pub stas : (q : ℕ) → S′ .status q ≡ S .status q
+    pub memories : (u : ℕ) → u ≢ w → S′ .memory u ≡ S .memory u
+    pub actives : (q : ℕ) → S′ .active q ≡ S .active q
+    pub statuses : (q : ℕ) → S′ .status q ≡ S .status q
 
   pub slot-local : {p i : ℕ} {y : Slot} {w : ℕ} {S S′ : State} → SlotSet p i y w S S′ → Local p S S′
   slot-local c = record { slots = c .slots; lines = λ q h n. c .lines q h }
@@ -75,25 +75,25 @@ module _ (E : ℕ) (home : ℕ → ℕ) where
     same-lines = fun-ext (λ h. c .lines p h)
 
     pub at-slot : AllTidy S′ → {x : Slot} → S .slot p i ≡ x → wordIs w x → wordIs w y → At p w (view S) (view S′)
-    at-slot T′ {x} was xw yw = at-local T (slot-local c) T′ w (c .mems)
+    at-slot T′ {x} was xw yw = at-local T (slot-local c) T′ w (c .memories)
         (λ u n. rw same-lines
         (look-else E home (S .slot p) (S′ .slot p) (S .line p) (T p) w i l x y was (c .here) (c .else) xw yw (rw same-lines at (T′ p)) u n))
-        (c .acts) (c .stas)
+        (c .actives) (c .statuses)
 
     -- a slot is set to what it was
     pub unmoved : S .slot p i ≡ y → S′ .memory w ≡ S .memory w → AllTidy S′ × Same (view S) (view S′)
     unmoved was m = (
       T′,
       record {
-        memory-same = λ u. elim (ℕ-discrete u w) [ yes e ↦ rw e m | no n ↦ c .mems u n ];
+        memory-same = λ u. elim (ℕ-discrete u w) [ yes e ↦ rw e m | no n ↦ c .memories u n ];
         copy-same = λ u q. elim (ℕ-discrete q p) [
           | yes e ↦ rw e
               (look-calm E home (S .slot p) (S′ .slot p) (S .line p) (S′ .line p) u (inl (c .lines p (home u))) (λ j h. inl (all j)) (T′ p))
           | no
               n ↦ look-local T (slot-local c) T′ u q n
         ];
-        active-same = c .acts;
-        status-same = c .stas;
+        active-same = c .actives;
+        status-same = c .statuses;
       },
     )
       where
@@ -109,7 +109,7 @@ module _ (E : ℕ) (home : ℕ → ℕ) where
         → AllTidy S′ × Bus.Freed p (view S) (view S′)
     normal-out {s} {u} {d} ey ew was m = (
       T′,
-      Bus.norm-out u (rw ew at (at-slot T′ was (sym ew) (rw ey tt))) (look-normal E home (S .slot p) (S .line p) (T p) i l was)
+      Bus.normal-freed u (rw ew at (at-slot T′ was (sym ew) (rw ey tt))) (look-normal E home (S .slot p) (S .line p) (T p) i l was)
           (rw same-lines (look-out E home (S .slot p) (S′ .slot p) (S .line p) (T p) i l (c .else) was (c .here ∙ ey))) m,
     )
       where
@@ -134,7 +134,7 @@ module _ (E : ℕ) (home : ℕ → ℕ) where
         → AllTidy S′ × Bus.Freed p (view S) (view S′)
     backup-out {s} {u} {d} ey ew was m =
         let b = look-backout E home (S .slot p) (S′ .slot p) (S .line p) (T p) i l (c .else) was (c .here ∙ ey) in
-        (T′, Bus.back-out u (rw ew at (at-slot T′ was (sym ew) (rw ey tt))) (b .3) (rw same-lines (b .4)) m)
+        (T′, Bus.backup-freed u (rw ew at (at-slot T′ was (sym ew) (rw ey tt))) (b .3) (rw same-lines (b .4)) m)
       where
         T′ : AllTidy S′
         T′ = tidy-local T (slot-local c)
@@ -142,7 +142,7 @@ module _ (E : ℕ) (home : ℕ → ℕ) where
 
     -- w's own entry changes and stays w's own
     pub turned : {x : Slot} → S .slot p i ≡ x → wordIs w x → wordIs w y → mainOn w x ≡ true → mainOn w y ≡ true
-        → (tentOn w x ≡ true → tentOn w y ≡ true)
+        → (tentativeOn w x ≡ true → tentativeOn w y ≡ true)
         → (b : Back) → Backs E home (S .slot p) (S .line p) w b
         → AllTidy S′ × At p w (view S) (view S′) × (view S .copy w p ≡ slotCopy x b) × (view S′ .copy w p ≡ slotCopy y b)
     turned {x} was xw yw mx my tk b bk =
@@ -188,9 +188,9 @@ module _ (E : ℕ) (home : ℕ → ℕ) where
     pub here : (i : ℕ) → i < E → S′ .slot p i ≡ f (S .slot p i)
     pub slots : (q j : ℕ) → q ≢ p → j < E → S′ .slot q j ≡ S .slot q j
     pub lines : (q h : ℕ) → S′ .line q h ≡ S .line q h
-    pub mems : (u : ℕ) → S′ .memory u ≡ S .memory u
-    pub acts : (q : ℕ) → q ≢ p → S′ .active q ≡ S .active q
-    pub stas : (q : ℕ) → q ≢ p → S′ .status q ≡ S .status q
+    pub memories : (u : ℕ) → S′ .memory u ≡ S .memory u
+    pub actives : (q : ℕ) → q ≢ p → S′ .active q ≡ S .active q
+    pub statuses : (q : ℕ) → q ≢ p → S′ .status q ≡ S .status q
 
   map-local : {f : Slot → Slot} {p : ℕ} {S S′ : State} → SlotMap f p S S′ → Local p S S′
   map-local c = record { slots = c .slots; lines = λ q h n. c .lines q h }
@@ -198,7 +198,14 @@ module _ (E : ℕ) (home : ℕ → ℕ) where
   map-cache : {f : Slot → Slot} (g : Copy → Copy) {p : ℕ} {S S′ : State} → AllTidy S → AllTidy S′ → SlotMap f p S S′
       → ((w : ℕ) → view S′ .copy w p ≡ g (view S .copy w p)) → OnlyProcessor g p (view S) (view S′)
   map-cache g T T′ c h =
-      record { memory-same = c .mems; here = h; else = λ u q n. look-local T (map-local c) T′ u q n; active-else = c .acts; status-else = c .stas }
+      record {
+        memory-same = c .memories;
+        here = h;
+        else = λ u q n. look-local T (map-local c) T′ u q n;
+        active-else = c .actives;
+        status-else =
+            c .statuses;
+      }
 
   pub rolled-back : {S S′ : State} (p : ℕ) → AllTidy S → SlotMap slotRollback p S S′ → S′ .active p ≡ S .active p → S′ .status p ≡ false
       → AllTidy S′ × Bus.RolledBack p (view S) (view S′)
@@ -206,21 +213,21 @@ module _ (E : ℕ) (home : ℕ → ℕ) where
     T′,
     record {
       cache = map-cache rolledBack T T′ c
-          (look-roll E home (S .slot p) (S′ .slot p) (S .line p) (S′ .line p) (T p) (λ h. c .lines p h) (c .here));
+          (look-rolled E home (S .slot p) (S′ .slot p) (S .line p) (S′ .line p) (T p) (λ h. c .lines p h) (c .here));
       status = s;
       active = a;
     },
   )
     where
       T′ : AllTidy S′
-      T′ = tidy-local T (map-local c) (tidy-roll E home (S .slot p) (S′ .slot p) (S .line p) (S′ .line p) (T p) (λ h. c .lines p h) (c .here))
+      T′ = tidy-local T (map-local c) (tidy-rolled E home (S .slot p) (S′ .slot p) (S .line p) (S′ .line p) (T p) (λ h. c .lines p h) (c .here))
 
   pub slots-committed : {S S′ : State} (p : ℕ) → AllTidy S → SlotMap slotCommit p S S′ → AllTidy S′ × OnlyProcessor committed p (view S) (view S′)
   slots-committed {S} {S′} p T c =
-      (T′, map-cache committed T T′ c (look-settle E home (S .slot p) (S′ .slot p) (S .line p) (S′ .line p) (T p) (λ h. c .lines p h) (c .here)))
+      (T′, map-cache committed T T′ c (look-committed E home (S .slot p) (S′ .slot p) (S .line p) (S′ .line p) (T p) (λ h. c .lines p h) (c .here)))
     where
       T′ : AllTidy S′
-      T′ = tidy-local T (map-local c) (tidy-settle E home (S .slot p) (S′ .slot p) (S .line p) (S′ .line p) (T p) (λ h. c .lines p h) (c .here))
+      T′ = tidy-local T (map-local c) (tidy-committed E home (S .slot p) (S′ .slot p) (S .line p) (S′ .line p) (T p) (λ h. c .lines p h) (c .here))
 
   -- only p's flags
   pub flagged : {S S′ : State} (p : ℕ) → AllTidy S → SlotMap (λ x. x) p S S′ → AllTidy S′ × OnlyProcessor same p (view S) (view S′)
@@ -241,9 +248,9 @@ module _ (E : ℕ) (home : ℕ → ℕ) where
     pub else : (g : ℕ) → g ≢ h → S′ .line p g ≡ S .line p g
     pub lines : (q g : ℕ) → q ≢ p → S′ .line q g ≡ S .line q g
     pub slots : (q j : ℕ) → S′ .slot q j ≡ S .slot q j
-    pub mems : (u : ℕ) → u ≢ w → S′ .memory u ≡ S .memory u
-    pub acts : (q : ℕ) → S′ .active q ≡ S .active q
-    pub stas : (q : ℕ) → S′ .status q ≡ S .status q
+    pub memories : (u : ℕ) → u ≢ w → S′ .memory u ≡ S .memory u
+    pub actives : (q : ℕ) → S′ .active q ≡ S .active q
+    pub statuses : (q : ℕ) → S′ .status q ≡ S .status q
 
   module _ {S S′ : State} (T : AllTidy S) {p h w : ℕ} {y : Line} (home-w : home w ≡ h) (c : LineSet p h y w S S′) where
     line-local : Local p S S′
@@ -257,9 +264,9 @@ module _ (E : ℕ) (home : ℕ → ℕ) where
         → AllTidy S′ × At p w (view S) (view S′)
     lined {x} was xw yw o = (
       T′,
-      at-local T line-local T′ w (c .mems)
+      at-local T line-local T′ w (c .memories)
           (λ u n. rw same-slots (line-else E home (S .slot p) (S .line p) (S′ .line p) (T p) w h home-w (c .else) was (c .here) xw yw o u n))
-          (c .acts) (c .stas),
+          (c .actives) (c .statuses),
     )
       where
         T′ : AllTidy S′

@@ -11,11 +11,13 @@ use Rattle.theory.specs.Change.{At, OnlyProcessor, same, Same}
 -- a line or an entry of p is freed: it was empty, or what it held is written back if DIRTY
 pub data Freed (p : ℕ) (S S′ : View) : Type 0 where
   empty : Same S S′ → Freed p S S′
-  reg-out : (u : ℕ) {s : LineState} {d : ℕ} → At p u S S′ → S .copy u p ≡ regular s d → S′ .copy u p ≡ none → S′ .memory u ≡ wrote s d (S .memory u)
+  regular-freed : (u : ℕ) {s : LineState} {d : ℕ} → At p u S S′ → S .copy u p ≡ regular s d → S′ .copy u p ≡ none
+      → S′ .memory u ≡ wrote s d (S .memory u)
       → Freed p S S′
-  norm-out : (u : ℕ) {s : LineState} {d : ℕ} → At p u S S′ → S .copy u p ≡ normal s d → S′ .copy u p ≡ none → S′ .memory u ≡ wrote s d (S .memory u)
+  normal-freed : (u : ℕ) {s : LineState} {d : ℕ} → At p u S S′ → S .copy u p ≡ normal s d → S′ .copy u p ≡ none
+      → S′ .memory u ≡ wrote s d (S .memory u)
       → Freed p S S′
-  back-out : (u : ℕ) {s r : LineState} {d e : ℕ} {t : Bool} → At p u S S′ → S .copy u p ≡ tentative s d (backup r e) t
+  backup-freed : (u : ℕ) {s r : LineState} {d e : ℕ} {t : Bool} → At p u S S′ → S .copy u p ≡ tentative s d (backup r e) t
       → S′ .copy u p ≡ tentative s d bare t
       → S′ .memory u ≡ wrote r e (S .memory u) → Freed p S S′
 
@@ -113,8 +115,8 @@ hits (tentative s d b t) x = (above s ≡ false) × (d ≡ x)
 
 -- STORE first gives up p's tentative copy of w, by rollback, and then its NORMAL copy
 pub data Unheld (p w : ℕ) (S S′ : View) : Type 0 where
-  un-tent : isTentative (S .copy w p) ≡ false → Same S S′ → Unheld p w S S′
-  re-tent : isTentative (S .copy w p) ≡ true → RolledBack p S S′ → Unheld p w S S′
+  none-held : isTentative (S .copy w p) ≡ false → Same S S′ → Unheld p w S S′
+  was-held : isTentative (S .copy w p) ≡ true → RolledBack p S S′ → Unheld p w S S′
 
 abbrev pub isNormal : Copy → Bool
 isNormal none = false
@@ -129,8 +131,8 @@ isRegular (normal s d) = false
 isRegular (tentative s d b t) = false
 
 pub data Unnormal (p w : ℕ) (S S′ : View) : Type 0 where
-  un-norm : isNormal (S .copy w p) ≡ false → Same S S′ → Unnormal p w S S′
-  re-norm : {s : LineState} {d : ℕ} → At p w S S′ → S .copy w p ≡ normal s d → S′ .copy w p ≡ none → S′ .memory w ≡ wrote s d (S .memory w)
+  none-normal : isNormal (S .copy w p) ≡ false → Same S S′ → Unnormal p w S S′
+  was-normal : {s : LineState} {d : ℕ} → At p w S S′ → S .copy w p ≡ normal s d → S′ .copy w p ≡ none → S′ .memory w ≡ wrote s d (S .memory w)
       → Unnormal p w S S′
 
 -- LT, LTX, ST first make p active, and then give up its regular copy
@@ -140,8 +142,8 @@ pub record Woken (p : ℕ) (S S′ : View) : Type 0 where
   pub status : S′ .status p ≡ S .status p
 
 pub data Unregular (p w : ℕ) (S S′ : View) : Type 0 where
-  un-reg : isRegular (S .copy w p) ≡ false → Same S S′ → Unregular p w S S′
-  re-reg : {s : LineState} {d : ℕ} → At p w S S′ → S .copy w p ≡ regular s d → S′ .copy w p ≡ none → S′ .memory w ≡ wrote s d (S .memory w)
+  none-regular : isRegular (S .copy w p) ≡ false → Same S S′ → Unregular p w S S′
+  was-regular : {s : LineState} {d : ℕ} → At p w S S′ → S .copy w p ≡ regular s d → S′ .copy w p ≡ none → S′ .memory w ≡ wrote s d (S .memory w)
       → Unregular p w S S′
 
 -- p's NORMAL copy becomes tentative, with a backup or without
