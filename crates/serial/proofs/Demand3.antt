@@ -43,13 +43,13 @@ pub record Reached (d : Dims) (s : Caches) (ds : List Did) (m′ : Machine) : Ty
 reach : {m m′ : Machine} {ds : List Did} (d : Dims) (s : Caches) → m ≡ machineOf d s → Fit d s → Took m ds m′ → Reached d s ds m′
 unfolding events
 reach d s e F nothing = record { state = s; is = e; fit = F; history = History.nothing }
-reach {m} {m′} d s e F (then {ds = ds} op p w v lv r t) = from (reach d (takeStep d op p w v s .after) (next (stepping m op p w v r)) G t)
+reach {m} {m′} d s e F (then {ds = ds} op p w v lv r t) = from (reach d (takeStep d op p w v s .after) next G t)
   where
     ok : Stepping (machineOf d s) op p w v
     ok = subst (λ (x : Machine). Stepping x op p w v) e (stepping m op p w v r)
 
-    next : Stepping m op p w v → stepOf m op p w v .machine ≡ machineOf d (takeStep d op p w v s .after)
-    next x = ap (λ (y : Machine). stepOf y op p w v .machine) e ∙ ap (λ (y : Stepped). y .machine) (ok .is)
+    next : stepOf m op p w v .machine ≡ machineOf d (takeStep d op p w v s .after)
+    next = ap (λ (y : Machine). stepOf y op p w v .machine) e ∙ ap (λ (y : Stepped). y .machine) (ok .is)
 
     answer : answerOf m op p w v ≡ takeStep d op p w v s .told .answer
     answer = ap (λ (y : Machine). stepOf y op p w v .told .answer) e ∙ ap (λ (y : Stepped). y .told .answer) (ok .is)

@@ -5,7 +5,7 @@ use Prim.Native.Nat.{ℕ, _<_}
 use native.Mathlib.Omega.{arith}
 use lib.Dec.{eqb}
 use lib.ListN.{length, getD}
-use borrow.Author.Tests.{eqb-true, eqb-false, not-false}
+use borrow.Author.Tests.{eqb-true, eqb-false, eq-eqb, not-false}
 use Rattle.laws.specs.Choice.{pick}
 use Rattle.laws.specs.Until.{until-inv}
 use Rattle.entry.specs.Answer.{refusalNumber, refusedBy}
@@ -18,6 +18,7 @@ use Rattle.machine.specs.SoundTest.{soundOf}
 use Rattle.machine.specs.Step.{stepRefusal, takeStep, stepped, steppedOf, stepSound, stepOf}
 use Rattle.machine.specs.Run.{Steps, Columns, columnsOk, Carried, carried, left, refusalAt, stopsAt, turn, runSound, runOf}
 use Rattle.theory.proofs.Coherent.{coherent-step}
+use Rattle.sound.proofs.Exact.{sound-true}
 use Rattle.serial.specs.Taking.{valueEnd, Values}
 use Rattle.serial.proofs.Requests.{beyond}
 use Rattle.serial.proofs.Steps.{taken, step-does}
@@ -26,12 +27,12 @@ use Rattle.serial.proofs.SoundCoherent.{sound-coherent, seen-coarse}
 use Rattle.serial.proofs.FitSound.{fit-sound}
 
 -- a sound state whose memory holds 32-bit values
-pub record Good (d : Dims) (s : Caches) : Type 0 where
+pub record SoundState (d : Dims) (s : Caches) : Type 0 where
   pub sound : Sound d s
   pub values : Values (s .memory)
 
-pub step-kept : {d : Dims} {s : Caches} → Good d s → (op p w v : ℕ) → stepRefusal d op p w ≡ accepted → v < valueEnd
-    → Good d (takeStep d op p w v s .after)
+pub step-kept : {d : Dims} {s : Caches} → SoundState d s → (op p w v : ℕ) → stepRefusal d op p w ≡ accepted → v < valueEnd
+    → SoundState d (takeStep d op p w v s .after)
 step-kept {d} {s} G op p w v e lv =
     let F = sound-fit (G .sound) (G .values) in
     let x = step-does F op p w v (taken d op p w e) lv in
@@ -61,24 +62,30 @@ stepping m op p w v e = by (soundOf (m .dims) (cachesOf m)) refl (eqb n accepted
     by true ha false hb e = absurd (eqb-false n accepted hb e)
     by false ha b hb e = absurd (omega (arith, e))
 
+-- and the other way: from a sound state a step within the dimensions is taken
+pub step-goes : (m : Machine) (op p w v : ℕ) → Sound (m .dims) (cachesOf m) → stepRefusal (m .dims) op p w ≡ accepted
+    → stepOf m op p w v ≡ steppedOf (m .dims) (takeStep (m .dims) op p w v (cachesOf m))
+unfolding stepOf stepSound
+step-goes m op p w v Z e = rw (sound-true (m .dims) (cachesOf m) Z, eq-eqb (stepRefusal (m .dims) op p w) accepted e)
+
 -- a run
 module _ {d : Dims} (x : Steps) (values : Values (x .values)) where
-  turn-kept : (i : ℕ) (c : Carried) → stopsAt d x i c ≡ false → Good d (c .state) → Good d (turn d x i c .state)
+  turn-kept : (i : ℕ) (c : Carried) → stopsAt d x i c ≡ false → SoundState d (c .state) → SoundState d (turn d x i c .state)
   turn-kept i c e G =
       step-kept G (getD (x .ops) i 0) (getD (x .cores) i 0) (getD (x .words) i 0) (getD (x .values) i 0)
       (eqb-true (refusalAt d x i) accepted (not-false (eqb (refusalAt d x i) accepted) e)) (values i)
 
-  sound-run-kept : (s : Caches) (c : Columns) → Good d s → Good d (cachesOf (runSound d x s c .ran .machine))
+  sound-run-kept : (s : Caches) (c : Columns) → SoundState d s → SoundState d (cachesOf (runSound d x s c .ran .machine))
   unfolding runSound
-  sound-run-kept s c G = until-inv (λ (y : Carried). Good d (y .state)) (stopsAt d x) (turn d x) turn-kept 0 (length (x .ops)) (carried s c) G
+  sound-run-kept s c G = until-inv (λ (y : Carried). SoundState d (y .state)) (stopsAt d x) (turn d x) turn-kept 0 (length (x .ops)) (carried s c) G
 
-pub run-kept : (m : Machine) (x : Steps) (c : Columns) → Values (x .values) → Good (m .dims) (cachesOf m)
-    → Good (m .dims) (cachesOf (runOf m x c .ran .machine))
+pub run-kept : (m : Machine) (x : Steps) (c : Columns) → Values (x .values) → SoundState (m .dims) (cachesOf m)
+    → SoundState (m .dims) (cachesOf (runOf m x c .ran .machine))
 unfolding runOf
 run-kept m x c values G = by (soundOf (m .dims) (cachesOf m)) (columnsOk x c)
   where
     by : (a b : Bool)
-        → Good (m .dims)
+        → SoundState (m .dims)
         (cachesOf (pick a (pick b (runSound (m .dims) x (cachesOf m) c) (left 0 badColumns m c)) (left 0 notSound m c) .ran .machine))
     by true true = sound-run-kept x values (cachesOf m) c G
     by true false = G

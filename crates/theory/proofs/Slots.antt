@@ -1,4 +1,4 @@
--- A change of one slot or of one line: what the processor then holds of each word.
+-- A change of one slot: what the processor then holds of each word.
 use mathlib.Core.Path.{_≡_, refl, sym, _∙_}
 use mathlib.Core.Logic.{_≢_, _⊎_, inl, inr}
 use mathlib.Core.Bool.{Bool, true, false, true≢false, false≢true}
