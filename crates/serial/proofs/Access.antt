@@ -63,9 +63,6 @@ module _ {d : Dims} {s : Caches} (F : Fit d s) (p : ℕ) (lp : p < d .processors
 
   -- it becomes another tentative entry of the same word
   module _ (x v : ℕ) (lx : x < 4) (nx : x ≢ INVALID) (lv : v < valueEnd) where
-    abbrev pub to : Entry
-    to = entry x TENTATIVE w v
-
     word-in : w < d .words
     word-in = subst (λ (u : ℕ). u < d .words) hw (tagged-fits (entry-fits F p lp i li) (λ z. omega arith) .word)
 

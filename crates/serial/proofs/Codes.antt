@@ -11,7 +11,7 @@ use Rattle.entry.specs.declared.Entry.{Entry}
 use Rattle.entry.specs.Numbers.{INVALID, RESERVED, DIRTY, NORMAL, BACKUP, TENTATIVE}
 use Rattle.machine.specs.declared.Dims.{Dims}
 use Rattle.theory.specs.View.{LineState, valid, reserved, dirty, above, isDirty}
-use Rattle.theory.proofs.Cache.{vacant, slotNormal, slotBackup, slotTentative, blank, filled}
+use Rattle.theory.proofs.Cache.{slotNormal, slotBackup, slotTentative, blank, filled}
 use Rattle.serial.proofs.Decode.{stateOf, slotBy, slotOf, lineOf}
 use Rattle.serial.proofs.Frame.{EntryFits, Fits}
 
@@ -50,9 +50,6 @@ module _ (e : Entry) where
   pub tentative-slot : e .tag ≡ TENTATIVE → slotOf e ≡ slotTentative (stateOf (e .state)) (e .word) (e .«data») (eqb (e .state) DIRTY)
   tentative-slot h = rw h
 
-  pub vacant-slot : e .tag ≡ INVALID → slotOf e ≡ vacant
-  vacant-slot h = rw h
-
   pub filled-line : e .state ≢ INVALID → lineOf e ≡ filled (stateOf (e .state)) (e .word) (e .«data»)
   filled-line n = by (eqb (e .state) INVALID) refl
     where
@@ -78,15 +75,6 @@ module _ (e : Entry) where
       by : (n b t : Bool) → eqb (e .tag) NORMAL ≡ n → slotBy n b t e ≡ slotNormal s w x → Is NORMAL e s w x
       by true b t h q = record { tagged = eqb-true (e .tag) NORMAL h; state = cc; word = cc; value = cc }
       by false true t h q = no (cc)
-      by false false true h q = no (cc)
-      by false false false h q = no (cc)
-
-  pub slot-backup : {s : LineState} {w x : ℕ} → slotOf e ≡ slotBackup s w x → Is BACKUP e s w x
-  slot-backup {s} {w} {x} q = by (eqb (e .tag) NORMAL) (eqb (e .tag) BACKUP) (eqb (e .tag) TENTATIVE) refl q
-    where
-      by : (n b t : Bool) → eqb (e .tag) BACKUP ≡ b → slotBy n b t e ≡ slotBackup s w x → Is BACKUP e s w x
-      by true b t h q = no (cc)
-      by false true t h q = record { tagged = eqb-true (e .tag) BACKUP h; state = cc; word = cc; value = cc }
       by false false true h q = no (cc)
       by false false false h q = no (cc)
 

@@ -57,7 +57,6 @@ pub record Flags (n : ℕ) (f : List ℕ) : Type 0 where
 
 pub record Size (d : Dims) : Type 0 where
   pub processors : d .processors ≤ 8
-  pub some-word : 0 < d .words
   pub words : d .words ≤ 256
   pub some-line : 0 < d .lines
   pub lines : d .lines ≤ 64

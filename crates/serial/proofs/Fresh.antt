@@ -69,12 +69,6 @@ module _ (d : Dims) (memory : List ℕ) (dims : dimsRefusal d ≡ accepted) (lon
     past = λ w l. past memory (256 - length memory) w (omega arith);
   }
 
-  abbrev n : ℕ
-  n = d .processors
-
-  ups : List ℕ
-  ups = padded 8 (replicate (d .processors) trueFlag)
-
   active-at : (p : ℕ) → getD (freshFlags (d .processors)) (activePlace p) 0 ≡ 0
   active-at p =
       List·getD-append (replicate 8 falseFlag) (padded 8 (replicate (d .processors) trueFlag)) 0 (activePlace p)
@@ -123,11 +117,8 @@ module _ (d : Dims) (memory : List ℕ) (dims : dimsRefusal d ≡ accepted) (lon
 
   slots : (p i : ℕ) → decoded d (fresh d memory) .slot p i ≡ vacant
   unfolding fresh readBy
-  slots p i = by (both-in (d .entries) p i)
+  slots p i = by (both (ltb p (d .processors)) (ltb i (d .entries)))
     where
-      both-in : (m p i : ℕ) → Bool
-      both-in m p i = both (ltb p (d .processors)) (ltb i m)
-
       by : (b : Bool) → pick b (slotOf (copyAt (replicate 512 0) p i)) vacant ≡ vacant
       by true = ap slotOf (ap unpack (zeros 512 (place p i)))
       by false = refl
@@ -173,9 +164,6 @@ made-of d memory e = by (eqb (dimsRefusal d) accepted) (eqb (length memory) (d .
   where
     m : Machine
     m = machineOf d (fresh d memory)
-
-    number : Bool → Bool → ℕ
-    number a b = pick a (pick b accepted badMemory) (dimsRefusal d)
 
     by : (a b : Bool) → eqb (dimsRefusal d) accepted ≡ a → eqb (length memory) (d .words) ≡ b
         → pick (eqb (pick a (pick b accepted badMemory) (dimsRefusal d)) accepted) (made accepted m)

@@ -42,7 +42,6 @@ step-kept {d} {s} G op p w v e lv =
 
 -- what a step that is not refused is
 pub record Stepping (m : Machine) (op p w v : ℕ) : Type 0 where
-  pub test : soundOf (m .dims) (cachesOf m) ≡ true
   pub refusal : stepRefusal (m .dims) op p w ≡ accepted
   pub is : stepOf m op p w v ≡ steppedOf (m .dims) (takeStep (m .dims) op p w v (cachesOf m))
 
@@ -58,7 +57,7 @@ stepping m op p w v e = by (soundOf (m .dims) (cachesOf m)) refl (eqb n accepted
         (pick a (pick b (steppedOf (m .dims) (takeStep (m .dims) op p w v (cachesOf m))) (stepped (refusedBy n) m))
         (stepped (refusedBy notSound) m) .told .answer)
         ≡ accepted → Stepping m op p w v
-    by true ha true hb e = record { test = ha; refusal = eqb-true n accepted hb; is = rw (ha, hb) }
+    by true ha true hb e = record { refusal = eqb-true n accepted hb; is = rw (ha, hb) }
     by true ha false hb e = absurd (eqb-false n accepted hb e)
     by false ha b hb e = absurd (omega (arith, e))
 

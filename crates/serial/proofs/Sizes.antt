@@ -40,7 +40,6 @@ size-of d e = by (within (d .processors) 8) (within (d .words) 256) (powerOfTwo 
         → pick a (pick b (pick c (pick f accepted badEntries) badLines) badWords) badProcessors ≡ accepted → Size d
     by true true true true ha hb hc hf e = record {
       processors = within-range (d .processors) 8 ha .1;
-      some-word = within-range (d .words) 256 hb .0;
       words = within-range (d .words) 256 hb .1;
       some-line = power-range (d .lines) hc .0;
       lines = power-range (d .lines) hc .1;

@@ -10,10 +10,10 @@ use Rattle.theory.specs.View.{LineState, Back, bare, backup, Copy, none,
 use Rattle.theory.proofs.OneWord.{owns-exclusive, clean-backup, clean-value, below-above, below-clean, dirty-above}
 use Rattle.theory.specs.Event.{Event}
 use Rattle.theory.specs.Change.{Live}
-use Rattle.theory.proofs.Moves.{Silent, Run}
+use Rattle.theory.proofs.Moves.{Run}
 use Rattle.theory.proofs.Logs.{good-empty}
 use Rattle.theory.specs.Plain.{Serial, Opaque, after, unlogged}
-use Rattle.theory.proofs.Agree.{Agree, agree-silent}
+use Rattle.theory.proofs.Agree.{Agree}
 use Rattle.theory.proofs.Invariant.{Inv, serial}
 
 abbrev pub backData : Back → ℕ
@@ -208,10 +208,6 @@ coherent→agree {S} n C co =
       (λ h. sym g ∙ h),
       (by (isDirty r) (λ h. wetly w p e h) (λ h. a .1 h ∙ dryly w p e refl h), o),
     )
-
--- a silent move keeps a coherent view coherent, and settled values as they were
-pub coherent-silent : {S S′ : View} (n : ℕ) → Coherent n S → ((w p : ℕ) → coarse (S .copy w p)) → Within n S′ → Silent S S′ → Coherent n S′
-coherent-silent n C co b s = agree→coherent n (agree-silent (coherent→agree n C co) s) b
 
 -- a machine with empty caches
 abbrev pub Bare : View → Type 0
