@@ -25,12 +25,8 @@ use Rattle.machine.specs.SoundTest.{soundOf}
 use Rattle.machine.specs.Refusals.{accepted, notSound}
 use Rattle.machine.specs.Step.{stepRefusal, takeStep, stepped, steppedOf, stepSound, stepOf}
 use Rattle.machine.proofs.Table.{row, case, passes}
+use Rattle.serial.specs.Bounded.{Bounded}
 use Rattle.serial.proofs.Access.{Access, lt, ltx, st, number}
-
-pub record Bounded (c : Counts) : Type 0 where
-  pub writes : c .write ≤ 3
-  pub requests : c .read + c .rfo + c .«t_read» + c .«t_rfo» ≤ 1
-  pub busy : c .busy ≤ 1
 
 abbrev Within : Outcome → Type 0
 Within r = Bounded (r .told .counts)

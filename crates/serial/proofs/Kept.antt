@@ -19,17 +19,12 @@ use Rattle.machine.specs.Step.{stepRefusal, takeStep, stepped, steppedOf, stepS
 use Rattle.machine.specs.Run.{Steps, Columns, columnsOk, Carried, carried, left, refusalAt, stopsAt, turn, runSound, runOf}
 use Rattle.theory.proofs.Coherent.{coherent-step}
 use Rattle.sound.proofs.Exact.{sound-true}
-use Rattle.serial.specs.Taking.{valueEnd, Values}
+use Rattle.serial.specs.Taking.{valueEnd, Values, SoundState}
 use Rattle.serial.proofs.Requests.{beyond}
 use Rattle.serial.proofs.Steps.{taken, step-does}
 use Rattle.serial.proofs.SoundFit.{sound-fit}
 use Rattle.serial.proofs.SoundCoherent.{sound-coherent, seen-coarse}
 use Rattle.serial.proofs.FitSound.{fit-sound}
-
--- a sound state whose memory holds 32-bit values
-pub record SoundState (d : Dims) (s : Caches) : Type 0 where
-  pub sound : Sound d s
-  pub values : Values (s .memory)
 
 pub step-kept : {d : Dims} {s : Caches} → SoundState d s → (op p w v : ℕ) → stepRefusal d op p w ≡ accepted → v < valueEnd
     → SoundState d (takeStep d op p w v s .after)

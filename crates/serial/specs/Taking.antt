@@ -5,8 +5,11 @@ use Prim.Native.Nat.{ℕ, _<_}
 use lib.ListN.{getD}
 use Rattle.entry.specs.declared.answer.Answer.{Answer}
 use Rattle.entry.specs.Answer.{refusalNumber}
+use Rattle.machine.specs.declared.Dims.{Dims}
 use Rattle.machine.specs.declared.Machine.{Machine}
+use Rattle.machine.specs.State.{Caches}
 use Rattle.machine.specs.Refusals.{accepted}
+use Rattle.machine.specs.Sound.{Sound}
 use Rattle.machine.specs.Step.{stepOf}
 use Rattle.theory.specs.Event.{Event}
 use Rattle.theory.specs.Plain.{Plain, unlogged}
@@ -18,6 +21,11 @@ valueEnd = 4294967296
 
 abbrev pub Values : List ℕ → Type 0
 Values l = (i : ℕ) → getD l i 0 < valueEnd
+
+-- a sound state whose memory holds 32-bit values
+pub record SoundState (d : Dims) (s : Caches) : Type 0 where
+  pub sound : Sound d s
+  pub values : Values (s .memory)
 
 -- the plain machine with the memory that the caller gave
 abbrev pub start : List ℕ → Plain
