@@ -1,0 +1,4 @@
+mod Back
+mod Copied
+pub mod Lengths
+pub mod Unique

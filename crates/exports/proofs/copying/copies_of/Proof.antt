@@ -1,0 +1,56 @@
+use mathlib.Core.Path.{_≡_, refl, _∙_}
+use Prim.Native.Nat.{_≤_, _-_}
+use lib.ListN.{length, take, length-set}
+use Rattle.exports.proofs.Copied.{copy-turn, copy-end}
+use borrow.Author.Needs.{needs}
+use Rattle.exports.proofs.copying.copies_of.Statement.{statement}
+use Rattle.exports.proofs.copying.copies_of.Tie as tie
+
+abbrev Inv-loop : tie.InvT-loop
+Inv-loop lent whole₀ i₀ whole i = (i ≤ 512) × ((length whole ≡ 512) × (take i whole ≡ take i lent))
+
+abbrev μ-loop : tie.MeasureT-loop
+μ-loop lent whole₀ i₀ whole i = 512 - i
+
+loop-holds : tie.Need-loop-holds Inv-loop μ-loop
+loop-holds c = (search needs, (refl, refl))
+
+mul-whole : tie.Need-mul-whole Inv-loop μ-loop
+mul-whole c = search needs
+
+shared-slice-read-whole : tie.Need-shared-slice-read-whole Inv-loop μ-loop
+shared-slice-read-whole c = search needs
+
+mul-whole-2 : tie.Need-mul-whole-2 Inv-loop μ-loop
+mul-whole-2 c = search needs
+
+array-write-whole : tie.Need-array-write-whole Inv-loop μ-loop
+array-write-whole c = search needs
+
+add-i : tie.Need-add-i Inv-loop μ-loop
+add-i c = search needs
+
+loop-less : tie.Need-loop-less Inv-loop μ-loop
+loop-less c = search needs
+
+loop-again : tie.Need-loop-again Inv-loop μ-loop
+loop-again c = (search needs, (length-set (c .before .before .loop .whole) _ _ ∙ c .before .before .loop .inv .1 .0, copy-turn (c .before .before .before .args .lent .now) (c .before .before .loop .whole) (c .before .before .loop .i) (search needs) (search needs) (c .before .before .loop .inv .1 .1)))
+
+returns : tie.Need-returns Inv-loop μ-loop
+returns c = copy-end (c .before .before .args .lent .now) (c .before .loop .whole) (c .before .loop .i) (search needs) (search needs) (c .before .loop .inv .1 .1)
+
+pub copies-of-spec : {M : Type 1} → statement M
+copies-of-spec =
+    tie.close
+    (tie.spec
+    Inv-loop
+    μ-loop
+    loop-holds
+    mul-whole
+    shared-slice-read-whole
+    mul-whole-2
+    array-write-whole
+    add-i
+    loop-less
+    loop-again
+    returns)

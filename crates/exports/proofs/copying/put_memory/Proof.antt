@@ -1,0 +1,60 @@
+use mathlib.Core.Path.{_≡_, refl, _∙_}
+use Prim.Native.Nat.{_≤_, _-_}
+use lib.ListN.{length, take, length-set}
+use Rattle.exports.proofs.Copied.{copy-turn, copy-end}
+use borrow.Author.Needs.{needs}
+use Rattle.exports.proofs.copying.put_memory.Statement.{statement}
+use Rattle.exports.proofs.copying.put_memory.Tie as tie
+
+abbrev Inv-loop : tie.InvT-loop
+Inv-loop lent₀ whole i₀ lent i = (i ≤ 256) × ((length lent ≡ 256) × (take i lent ≡ take i whole))
+
+abbrev μ-loop : tie.MeasureT-loop
+μ-loop lent₀ whole i₀ lent i = 256 - i
+
+loop-holds : tie.Need-loop-holds Inv-loop μ-loop
+loop-holds c = (search needs, (c .pre .0, refl))
+
+mul-lent : tie.Need-mul-lent Inv-loop μ-loop
+mul-lent c = search needs
+
+element-copy-out-lent : tie.Need-element-copy-out-lent Inv-loop μ-loop
+element-copy-out-lent c = search needs
+
+mul-lent-2 : tie.Need-mul-lent-2 Inv-loop μ-loop
+mul-lent-2 c = search needs
+
+slice-write-lent : tie.Need-slice-write-lent Inv-loop μ-loop
+slice-write-lent c = search needs
+
+add-i : tie.Need-add-i Inv-loop μ-loop
+add-i c = search needs
+
+loop-less : tie.Need-loop-less Inv-loop μ-loop
+loop-less c = search needs
+
+loop-again : tie.Need-loop-again Inv-loop μ-loop
+loop-again c = (search needs, (length-set (c .before .before .loop .lent) _ _ ∙ c .before .before .loop .inv .1 .0, copy-turn (c .before .before .before .args .whole .now) (c .before .before .loop .lent) (c .before .before .loop .i) (search needs) (search needs) (c .before .before .loop .inv .1 .1)))
+
+same-length : tie.Need-same-length Inv-loop μ-loop
+same-length c = search needs
+
+returns : tie.Need-returns Inv-loop μ-loop
+returns c = copy-end (c .before .before .args .whole .now) (c .before .loop .lent) (c .before .loop .i) (search needs) (search needs) (c .before .loop .inv .1 .1)
+
+pub put-memory-spec : {M : Type 1} → statement M
+put-memory-spec =
+    tie.close
+    (tie.spec
+    Inv-loop
+    μ-loop
+    loop-holds
+    mul-lent
+    element-copy-out-lent
+    mul-lent-2
+    slice-write-lent
+    add-i
+    loop-less
+    loop-again
+    same-length
+    returns)

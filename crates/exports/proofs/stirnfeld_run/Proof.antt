@@ -1,0 +1,103 @@
+use Rattle.exports.proofs.Back.{run-back}
+use mathlib.Core.Path.{_∙_, sym}
+use borrow.Author.Tests.{not-true, not-false}
+use Rattle.exports.specs.Lent.{runIn}
+use Rattle.exports.proofs.Lengths.{long, run-short}
+use borrow.Author.Needs.{needs}
+use Rattle.exports.proofs.stirnfeld_run.Statement.{statement}
+use Rattle.exports.proofs.stirnfeld_run.Tie as tie
+
+lengths-ok-requires : tie.Need-lengths-ok-requires
+lengths-ok-requires c κs = search needs
+
+same-length : tie.Need-same-length
+same-length c = search needs
+
+same-length-2 : tie.Need-same-length-2
+same-length-2 c = search needs
+
+same-length-3 : tie.Need-same-length-3
+same-length-3 c = search needs
+
+same-length-4 : tie.Need-same-length-4
+same-length-4 c = search needs
+
+returns : tie.Need-returns
+unfolding runIn
+returns c = rw (run-short _ _ (sym (c .before .lengths-ok .ensures) ∙ not-true (c .before .lengths-ok .result) (c .if1 .taken)))
+
+machine-of-requires : tie.Need-machine-of-requires
+machine-of-requires c κs = long _ (sym (c .before .before .before .before .before .lengths-ok .ensures) ∙ not-false (c .before .before .before .before .before .lengths-ok .result) (c .before .before .before .before .if1 .left))
+
+run-requires : tie.Need-run-requires
+run-requires c κs = search needs
+
+put-machine-requires : tie.Need-put-machine-requires
+put-machine-requires c κs = long _ (sym (c .before .before .before .before .before .before .before .before .before .before .before .before .before .before .before .before .before .before .before .before .before .before .before .before .before .before .before .before .before .before .before .before .before .before .before .lengths-ok .ensures) ∙ not-false (c .before .before .before .before .before .before .before .before .before .before .before .before .before .before .before .before .before .before .before .before .before .before .before .before .before .before .before .before .before .before .before .before .before .before .before .lengths-ok .result) (c .before .before .before .before .before .before .before .before .before .before .before .before .before .before .before .before .before .before .before .before .before .before .before .before .before .before .before .before .before .before .before .before .before .before .if1 .left))
+
+same-length-5 : tie.Need-same-length-5
+same-length-5 c = search needs
+
+same-length-6 : tie.Need-same-length-6
+same-length-6 c = search needs
+
+same-length-7 : tie.Need-same-length-7
+same-length-7 c = search needs
+
+same-length-8 : tie.Need-same-length-8
+same-length-8 c = search needs
+
+same-length-9 : tie.Need-same-length-9
+same-length-9 c = search needs
+
+same-length-10 : tie.Need-same-length-10
+same-length-10 c = search needs
+
+same-length-11 : tie.Need-same-length-11
+same-length-11 c = search needs
+
+same-length-12 : tie.Need-same-length-12
+same-length-12 c = search needs
+
+same-length-13 : tie.Need-same-length-13
+same-length-13 c = search needs
+
+same-length-14 : tie.Need-same-length-14
+same-length-14 c = search needs
+
+same-length-15 : tie.Need-same-length-15
+same-length-15 c = search needs
+
+same-length-16 : tie.Need-same-length-16
+same-length-16 c = search needs
+
+returns-2 : tie.Need-returns-2
+unfolding runIn
+returns-2 c = run-back _ _ _ _ _ (c .before .before .before .before .before .before .before .before .before .before .before .before .before .before .before .before .before .before .before .before .before .before .before .before .before .before .before .before .before .run .result) _ _ (c .before .before .before .before .before .before .before .before .before .before .before .before .before .before .before .before .before .before .before .before .before .before .before .before .before .before .before .before .before .before .before .before .before .before .before .before .before .before .machine-of .ensures) (c .before .before .before .before .before .before .before .before .put-machine .ensures) (c .before .before .before .before .before .before .before .before .before .before .before .before .before .before .before .before .before .before .before .before .before .before .before .before .before .before .before .before .before .run .ensures)
+
+pub stirnfeld-run-spec : {M : Type 1} → statement M
+stirnfeld-run-spec =
+    tie.close
+    (tie.spec
+    lengths-ok-requires
+    same-length
+    same-length-2
+    same-length-3
+    same-length-4
+    returns
+    machine-of-requires
+    run-requires
+    put-machine-requires
+    same-length-5
+    same-length-6
+    same-length-7
+    same-length-8
+    same-length-9
+    same-length-10
+    same-length-11
+    same-length-12
+    same-length-13
+    same-length-14
+    same-length-15
+    same-length-16
+    returns-2)
