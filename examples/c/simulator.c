@@ -1,0 +1,96 @@
+/* A small simulator: makes a machine, runs a trace, and prints what each core
+ * saw, then every word's settled value. The trace is document 01's example. */
+#include <inttypes.h>
+#include <stdio.h>
+#include <stdlib.h>
+
+#include "stirnfeld.h"
+
+enum { PROCESSORS = 4, WORDS = 16, LINES = 4, ENTRIES = 4, STEPS = 8 };
+
+#define DIMENSIONS PROCESSORS, WORDS, LINES, ENTRIES
+
+static uint32_t memory[STIRNFELD_MEMORY];
+static uint64_t regular[STIRNFELD_REGULAR];
+static uint64_t transactional[STIRNFELD_TRANSACTIONAL];
+static uint8_t flags[STIRNFELD_FLAGS];
+
+#define STATE                                                            \
+    memory, STIRNFELD_MEMORY, regular, STIRNFELD_REGULAR, transactional, \
+        STIRNFELD_TRANSACTIONAL, flags, STIRNFELD_FLAGS
+
+static const uint8_t ops[STEPS] = {
+    STIRNFELD_LTX, STIRNFELD_ST, STIRNFELD_LT, STIRNFELD_COMMIT,
+    STIRNFELD_COMMIT, STIRNFELD_LT, STIRNFELD_VALIDATE, STIRNFELD_COMMIT
+};
+static const uint8_t cores[STEPS] = { 0, 0, 1, 1, 0, 1, 1, 1 };
+static const uint32_t used_words[STEPS] = { 5, 5, 5, 0, 0, 5, 0, 0 };
+static const uint32_t values[STEPS] = { 0, 7, 0, 0, 0, 0, 0, 0 };
+
+static uint8_t answers[STEPS];
+static uint32_t results[STEPS];
+static uint32_t read[STEPS], rfo[STEPS], write[STEPS];
+static uint32_t t_read[STEPS], t_rfo[STEPS], busy[STEPS];
+
+static const char *const step_names[] = {
+    "LOAD", "STORE", "LT", "LTX", "ST", "COMMIT", "ABORT", "VALIDATE", "INTERRUPT"
+};
+static const char *const answer_names[] = {
+    "VALUE", "DONE", "SUCCESS", "FAILURE", "TRUE", "FALSE", "ABORTED"
+};
+
+static void must(const char *call, uint8_t refusal)
+{
+    if (refusal == STIRNFELD_ACCEPTED)
+        return;
+    fprintf(stderr, "%s is refused: %u\n", call, refusal);
+    exit(1);
+}
+
+static void make_machine(void)
+{
+    static const uint32_t initial[WORDS];
+    must("the machine", stirnfeld_make(DIMENSIONS, initial, WORDS, STATE));
+}
+
+static void run_trace(void)
+{
+    size_t taken;
+    must("the run", stirnfeld_run(
+        DIMENSIONS, STATE, ops, STEPS, cores, STEPS, used_words, STEPS,
+        values, STEPS, answers, STEPS, results, STEPS, read, STEPS, rfo, STEPS,
+        write, STEPS, t_read, STEPS, t_rfo, STEPS, busy, STEPS, &taken));
+}
+
+static void print_answers(void)
+{
+    printf("core step       word value  answer   value  "
+           "READ RFO WRITE T_READ T_RFO BUSY\n");
+    for (size_t i = 0; i < STEPS; i++) {
+        printf("%4u %-9s  %4" PRIu32 " %5" PRIu32 "  %-7s  %5" PRIu32 "  ",
+               cores[i], step_names[ops[i]], used_words[i], values[i],
+               answer_names[answers[i]], results[i]);
+        printf("%4" PRIu32 " %3" PRIu32 " %5" PRIu32 " %6" PRIu32 " %5" PRIu32
+               " %4" PRIu32 "\n",
+               read[i], rfo[i], write[i], t_read[i], t_rfo[i], busy[i]);
+    }
+}
+
+static void print_settled(void)
+{
+    printf("word settled\n");
+    for (uint32_t word = 0; word < WORDS; word++) {
+        uint32_t value;
+        must("a word", stirnfeld_settled(DIMENSIONS, STATE, word, &value));
+        printf("%4" PRIu32 " %7" PRIu32 "\n", word, value);
+    }
+}
+
+int main(void)
+{
+    make_machine();
+    run_trace();
+    print_answers();
+    print_settled();
+    return 0;
+}
