@@ -9,7 +9,7 @@ use Rattle.machine.specs.State.{Caches, cachesOf, machineOf}
 use Rattle.machine.specs.Refusals.{notSound, badColumns}
 use Rattle.machine.specs.SoundTest.{soundOf}
 use Rattle.machine.specs.Run.{Steps, Columns, Left, left, columnsOk, runSound, runOf}
-use Rattle.bus.specs.Halting.{leftBy}
+use Rattle.runs.specs.Halting.{leftBy}
 use Rattle.exports.specs.Lent.{leftIn, runIn}
 
 abbrev dimsLeft : Left → Dims

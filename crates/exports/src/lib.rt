@@ -110,7 +110,7 @@ pub extern "C" fn stirnfeld_run(
         entries: entries,
     };
     let m = machine_of(d, memory, regular, transactional, flags);
-    let ran = bus::run(
+    let ran = runs::run(
         m,
         ops,
         cores,
