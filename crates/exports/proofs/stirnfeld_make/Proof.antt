@@ -30,10 +30,21 @@ same-length-4 c = search needs
 
 returns-2 : tie.Need-returns-2
 unfolding makeIn
-returns-2 c = rw (← c .before .before .before .before .before .before .before .before .make .ensures, eq-eqb _ _ (c .before .before .before .before .before .before .if1 .left), ← c .before .lengths-ok .ensures, not-true (c .before .lengths-ok .result) (c .if2 .taken))
+returns-2 c =
+    let c1 = c .before .before .before .before .before .before in
+    let c2 = c1 .before .before in
+    rw (
+      ← c2 .make .ensures,
+      eq-eqb _ _ (c1 .if1 .left),
+      ← c .before .lengths-ok .ensures,
+      not-true (c .before .lengths-ok .result) (c .if2 .taken),
+    )
 
 put-machine-requires : tie.Need-put-machine-requires
-put-machine-requires c κs = long _ (sym (c .before .before .before .before .before .lengths-ok .ensures) ∙ not-false (c .before .before .before .before .before .lengths-ok .result) (c .before .before .before .before .if2 .left))
+put-machine-requires c κs =
+    let c1 = c .before .before .before .before in
+    let c2 = c1 .before in
+    long _ (sym (c2 .lengths-ok .ensures) ∙ not-false (c2 .lengths-ok .result) (c1 .if2 .left))
 
 same-length-5 : tie.Need-same-length-5
 same-length-5 c = search needs
@@ -49,7 +60,19 @@ same-length-8 c = search needs
 
 returns-3 : tie.Need-returns-3
 unfolding makeIn
-returns-3 c = rw (← c .before .before .before .before .before .before .before .before .before .before .before .before .before .before .before .before .before .before .before .before .before .make .ensures, eq-eqb _ _ (c .before .before .before .before .before .before .before .before .before .before .before .before .before .before .before .before .before .before .before .if1 .left), ← c .before .before .before .before .before .before .before .before .before .before .before .before .before .before .lengths-ok .ensures, not-false (c .before .before .before .before .before .before .before .before .before .before .before .before .before .before .lengths-ok .result) (c .before .before .before .before .before .before .before .before .before .before .before .before .before .if2 .left), c .before .before .before .before .before .before .before .before .put-machine .ensures)
+returns-3 c =
+    let c1 = c .before .before .before .before .before .before .before .before in
+    let c2 = c1 .before .before .before .before .before in
+    let c3 = c2 .before in
+    let c4 = c3 .before .before .before .before .before in
+    let c5 = c4 .before .before in
+    rw (
+      ← c5 .make .ensures,
+      eq-eqb _ _ (c4 .if1 .left),
+      ← c3 .lengths-ok .ensures,
+      not-false (c3 .lengths-ok .result) (c2 .if2 .left),
+      c1 .put-machine .ensures,
+    )
 
 pub stirnfeld-make-spec : {M : Type 1} → statement M
 stirnfeld-make-spec =

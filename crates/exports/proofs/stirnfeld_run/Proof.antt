@@ -27,13 +27,19 @@ unfolding runIn
 returns c = rw (run-short _ _ (sym (c .before .lengths-ok .ensures) ∙ not-true (c .before .lengths-ok .result) (c .if1 .taken)))
 
 machine-of-requires : tie.Need-machine-of-requires
-machine-of-requires c κs = long _ (sym (c .before .before .before .before .before .lengths-ok .ensures) ∙ not-false (c .before .before .before .before .before .lengths-ok .result) (c .before .before .before .before .if1 .left))
+machine-of-requires c κs =
+    let c1 = c .before .before .before .before in
+    let c2 = c1 .before in
+    long _ (sym (c2 .lengths-ok .ensures) ∙ not-false (c2 .lengths-ok .result) (c1 .if1 .left))
 
 run-requires : tie.Need-run-requires
 run-requires c κs = search needs
 
 put-machine-requires : tie.Need-put-machine-requires
-put-machine-requires c κs = long _ (sym (c .before .before .before .before .before .before .before .before .before .before .before .before .before .before .before .before .before .before .before .before .before .before .before .before .before .before .before .before .before .before .before .before .before .before .before .lengths-ok .ensures) ∙ not-false (c .before .before .before .before .before .before .before .before .before .before .before .before .before .before .before .before .before .before .before .before .before .before .before .before .before .before .before .before .before .before .before .before .before .before .before .lengths-ok .result) (c .before .before .before .before .before .before .before .before .before .before .before .before .before .before .before .before .before .before .before .before .before .before .before .before .before .before .before .before .before .before .before .before .before .before .if1 .left))
+put-machine-requires c κs =
+    let c1 = c .before .before .before .before .before .before .before .before .before .before .before .before .before .before .before .before .before .before .before .before .before .before .before .before .before .before .before .before .before .before .before .before .before .before in
+    let c2 = c1 .before in
+    long _ (sym (c2 .lengths-ok .ensures) ∙ not-false (c2 .lengths-ok .result) (c1 .if1 .left))
 
 same-length-5 : tie.Need-same-length-5
 same-length-5 c = search needs
@@ -73,7 +79,11 @@ same-length-16 c = search needs
 
 returns-2 : tie.Need-returns-2
 unfolding runIn
-returns-2 c = run-back _ _ _ _ _ (c .before .before .before .before .before .before .before .before .before .before .before .before .before .before .before .before .before .before .before .before .before .before .before .before .before .before .before .before .before .run .result) _ _ (c .before .before .before .before .before .before .before .before .before .before .before .before .before .before .before .before .before .before .before .before .before .before .before .before .before .before .before .before .before .before .before .before .before .before .before .before .before .before .machine-of .ensures) (c .before .before .before .before .before .before .before .before .put-machine .ensures) (c .before .before .before .before .before .before .before .before .before .before .before .before .before .before .before .before .before .before .before .before .before .before .before .before .before .before .before .before .before .run .ensures)
+returns-2 c =
+    let c1 = c .before .before .before .before .before .before .before .before in
+    let c2 = c1 .before .before .before .before .before .before .before .before .before .before .before .before .before .before .before .before .before .before .before .before .before in
+    let c3 = c2 .before .before .before .before .before .before .before .before .before in
+    run-back _ _ _ _ _ (c2 .run .result) _ _ (c3 .machine-of .ensures) (c1 .put-machine .ensures) (c2 .run .ensures)
 
 pub stirnfeld-run-spec : {M : Type 1} → statement M
 stirnfeld-run-spec =

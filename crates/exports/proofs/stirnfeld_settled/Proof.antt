@@ -27,7 +27,14 @@ refusal-requires c κs = search needs
 
 returns-2 : tie.Need-returns-2
 unfolding settledTold
-returns-2 c = rw (← c .before .before .before .machine-of .ensures, ← c .before .before .settled .ensures, c .before .value .ensures, c .refusal .ensures)
+returns-2 c =
+    let c1 = c .before .before .before in
+    rw (
+      ← c1 .machine-of .ensures,
+      ← c .before .before .settled .ensures,
+      c .before .value .ensures,
+      c .refusal .ensures,
+    )
 
 pub stirnfeld-settled-spec : {M : Type 1} → statement M
 stirnfeld-settled-spec =

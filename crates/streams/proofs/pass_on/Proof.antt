@@ -12,7 +12,9 @@ returns-2 : tie.Need-returns-2
 returns-2 c = search needs
 
 slice-aggregate-write-all : tie.Need-slice-aggregate-write-all
-slice-aggregate-write-all c = let l = length-take (c .before .before .before .before .args .used) (c .before .before .before .before .args .out .now) in sym (l ∙ omega (arith, c .before .if2 .left))
+slice-aggregate-write-all c =
+    let c1 = c .before .before .before .before in
+    let l = length-take (c1 .args .used) (c1 .args .out .now) in sym (l ∙ omega (arith, c .before .if2 .left))
 
 write-all-requires : tie.Need-write-all-requires
 write-all-requires c κs = search needs

@@ -28,13 +28,17 @@ loop-less : tie.Need-loop-less Inv-loop μ-loop
 loop-less c = search needs
 
 loop-again : tie.Need-loop-again Inv-loop μ-loop
-loop-again c = (search needs, (length-set (c .before .before .loop .lent) _ _ ∙ c .before .before .loop .inv .1 .0, copy-turn (c .before .before .before .args .whole .now) (c .before .before .loop .lent) (c .before .before .loop .i) (search needs) (search needs) (c .before .before .loop .inv .1 .1)))
+loop-again c =
+    let c1 = c .before .before .before in
+    (search needs, (length-set (c .before .before .loop .lent) _ _ ∙ c .before .before .loop .inv .1 .0, copy-turn (c1 .args .whole .now) (c .before .before .loop .lent) (c .before .before .loop .i) (search needs) (search needs) (c .before .before .loop .inv .1 .1)))
 
 same-length : tie.Need-same-length Inv-loop μ-loop
 same-length c = search needs
 
 returns : tie.Need-returns Inv-loop μ-loop
-returns c = copy-end (c .before .before .args .whole .now) (c .before .loop .lent) (c .before .loop .i) (search needs) (search needs) (c .before .loop .inv .1 .1)
+returns c =
+    copy-end (c .before .before .args .whole .now) (c .before .loop .lent) (c .before .loop .i) (search needs) (search needs)
+    (c .before .loop .inv .1 .1)
 
 pub put-flags-spec : {M : Type 1} → statement M
 put-flags-spec =

@@ -15,7 +15,14 @@ flags-of-requires : tie.Need-flags-of-requires
 flags-of-requires c κs = search needs
 
 returns : tie.Need-returns
-returns c = rw (c .before .before .before .memory-of .ensures, c .before .before .copies-of .ensures, c .before .copies-of2 .ensures, c .flags-of .ensures)
+returns c =
+    let c1 = c .before .before .before in
+    rw (
+      c1 .memory-of .ensures,
+      c .before .before .copies-of .ensures,
+      c .before .copies-of2 .ensures,
+      c .flags-of .ensures,
+    )
 
 pub machine-of-spec : {M : Type 1} → statement M
 machine-of-spec =

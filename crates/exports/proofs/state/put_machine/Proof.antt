@@ -12,7 +12,9 @@ put-copies-requires-2 : tie.Need-put-copies-requires-2
 put-copies-requires-2 c κs = search needs
 
 put-flags-requires : tie.Need-put-flags-requires
-put-flags-requires c κs = (c .before .before .before .before .before .before .before .before .before .before .before .before .before .before .before .before .before .before .before .before .before .before .before .before .before .pre .flags, search (needs, c .before .before .before .before .before .before .before .before .before .before .before .before .before .before .before .before .before .before .before .before .before .before .before .before .before .good))
+put-flags-requires c κs =
+    let c1 = c .before .before .before .before .before .before .before .before .before .before .before .before .before .before .before .before .before .before .before .before .before .before .before .before .before in
+    (c1 .pre .flags, search (needs, c1 .good))
 
 same-length : tie.Need-same-length
 same-length c = search needs
@@ -27,7 +29,16 @@ same-length-4 : tie.Need-same-length-4
 same-length-4 c = search needs
 
 returns : tie.Need-returns
-returns c = rw (c .before .before .before .before .before .before .before .before .before .before .before .before .before .before .before .before .before .before .before .before .put-memory .ensures, c .before .before .before .before .before .before .before .before .before .before .before .before .before .before .put-copies .ensures, c .before .before .before .before .before .before .before .before .put-copies2 .ensures, c .before .before .put-flags .ensures)
+returns c =
+    let c1 = c .before .before .before .before .before .before .before .before in
+    let c2 = c1 .before .before .before .before .before .before in
+    let c3 = c2 .before .before .before .before .before .before in
+    rw (
+      c3 .put-memory .ensures,
+      c2 .put-copies .ensures,
+      c1 .put-copies2 .ensures,
+      c .before .before .put-flags .ensures,
+    )
 
 pub put-machine-spec : {M : Type 1} → statement M
 put-machine-spec =
