@@ -12,9 +12,10 @@ put-copies-requires-2 : tie.Need-put-copies-requires-2
 put-copies-requires-2 c κs = search needs
 
 put-flags-requires : tie.Need-put-flags-requires
-put-flags-requires c κs =
-    let c1 = c .before .before .before .before .before .before .before .before .before .before .before .before .before .before .before .before .before .before .before .before .before .before .before .before .before in
-    (c1 .pre .flags, search (needs, c1 .good))
+put-flags-requires c κs = (
+  c .before .before .before .before .before .before .before .before .before .before .before .before .before .before .before .before .before .before .before .before .before .before .before .before .before .pre .flags,
+  search (needs, c .before .before .before .before .before .before .before .before .before .before .before .before .before .before .before .before .before .before .before .before .before .before .before .before .before .good),
+)
 
 same-length : tie.Need-same-length
 same-length c = search needs
