@@ -1,42 +1,59 @@
--- A search whose places go round after 64 need not go further. Assumes nothing.
+-- Where a search ends of which it is known that no place before i has what is looked for; and that a search whose places go round after 64
+-- need not go further. Assumes nothing.
 use mathlib.Core.Path.{_≡_, refl, sym, _∙_}
 use mathlib.Core.Bool.{Bool, true, false}
-use Prim.Native.Nat.{ℕ, _%_, _≤_, _<_}
+use Prim.Native.Nat.{ℕ, _+_, _%_, _≤_, _<_}
 use native.Mathlib.Omega.{arith}
-use native.Mathlib.Decide.{decLt}
+use native.Mathlib.Decide.{ℕ-discrete, decLt}
 use borrow.Author.Tests.{ltb-true}
 use lib.Dec.{ltb}
 use Rattle.laws.specs.Choice.{pick}
-use Rattle.laws.specs.Search.{firstFrom, first-has, first-not, none-at, none-of}
+use Rattle.laws.specs.Search.{firstFrom, first-has, first-not, none-of}
 
-module _ (p : ℕ → Bool) (n m : ℕ) (reached : m ≡ pick (ltb 64 n) 64 n) where
-  short : m ≤ n
-  short = by (ltb 64 n) refl reached
+never : false ≡ true → ⊥
+never z = let o : _≡_ {A = ℕ} 0 1 = cc in omega arith
+
+module _ (p : ℕ → Bool) where
+  abbrev pub none : ℕ → ℕ → Type 0
+  none i j = (k : ℕ) → i ≤ k → k < j → p k ≡ false
+
+  pub none-yet : (i : ℕ) → none i i
+  none-yet i k a b = absurd (omega arith)
+
+  pub none-next : (i j l : ℕ) → none i j → p j ≡ false → l ≡ j + 1 → none i l
+  none-next i j l h e to k a b = by (ℕ-discrete k j)
     where
-      by : (b : Bool) → ltb 64 n ≡ b → m ≡ pick b 64 n → m ≤ n
-      by true t k = omega (arith, ltb-true 64 n t)
-      by false t k = omega arith
+      by : Dec (k ≡ j) → p k ≡ false
+      by (yes z) = rw z e
+      by (no z) = h k a (omega arith)
 
-  -- found within the first places, found so among all
-  pub round-hit : (i : ℕ) → i < m → firstFrom p 0 m ≡ i → firstFrom p 0 n ≡ i
-  round-hit i h e = by (decLt (firstFrom p 0 n) i) (decLt i (firstFrom p 0 n))
+  pub none-on : (i j k : ℕ) → none i j → none j k → none i k
+  none-on i j k h g x a b = by (decLt x j)
     where
-      has : p i ≡ true
-      has = rw (← e) (first-has p 0 m (omega (arith, e)))
+      by : Dec (x < j) → p x ≡ false
+      by (yes z) = h x a z
+      by (no z) = g x (omega arith) b
 
-      never : false ≡ true → ⊥
-      never z = let o : _≡_ {A = ℕ} 0 1 = cc in omega arith
-
+  pub first-at : (i n : ℕ) → i < n → p i ≡ true → none 0 i → firstFrom p 0 n ≡ i
+  first-at i n h has no-other = by (decLt (firstFrom p 0 n) i) (decLt i (firstFrom p 0 n))
+    where
       by : Dec (firstFrom p 0 n < i) → Dec (i < firstFrom p 0 n) → firstFrom p 0 n ≡ i
-      by (yes l) z =
-          absurd (never (sym (first-not p 0 m (firstFrom p 0 n) (omega arith) (omega (arith, e))) ∙ first-has p 0 n (omega (arith, short))))
+      by (yes l) z = absurd (never (sym (no-other (firstFrom p 0 n) (omega arith) l) ∙ first-has p 0 n (omega arith)))
       by (no l) (yes k) = absurd (never (sym (first-not p 0 n i (omega arith) k) ∙ has))
       by (no l) (no k) = omega arith
 
-  pub round-end : ((k : ℕ) → p k ≡ p (k % 64)) → firstFrom p 0 m ≡ m → firstFrom p 0 n ≡ n
-  round-end same e = by (ltb 64 n) refl reached
-    where
-      by : (b : Bool) → ltb 64 n ≡ b → m ≡ pick b 64 n → firstFrom p 0 n ≡ n
-      by true t k =
-          none-of p 0 n (λ j a b. same j ∙ none-at p 0 m (e ∙ omega arith) (j % 64) (omega arith) (omega arith)) ∙ omega arith
-      by false t k = rw (← k) e
+  module _ (n m : ℕ) (reached : m ≡ pick (ltb 64 n) 64 n) where
+    -- found within the first places, found so among all
+    pub round-hit : (i : ℕ) → i < m → p i ≡ true → none 0 i → firstFrom p 0 n ≡ i
+    round-hit i h has no-other = first-at i n (by (ltb 64 n) refl reached) has no-other
+      where
+        by : (b : Bool) → ltb 64 n ≡ b → m ≡ pick b 64 n → i < n
+        by true t k = omega (arith, ltb-true 64 n t)
+        by false t k = omega arith
+
+    pub round-end : ((k : ℕ) → p k ≡ p (k % 64)) → (i : ℕ) → m ≤ i → none 0 i → firstFrom p 0 n ≡ n
+    round-end same i h no-other = none-of p 0 n (λ j a b. by (ltb 64 n) refl reached j (omega arith)) ∙ omega arith
+      where
+        by : (b : Bool) → ltb 64 n ≡ b → m ≡ pick b 64 n → (j : ℕ) → j < n → p j ≡ false
+        by true t k j l = same j ∙ no-other (j % 64) (omega arith) (omega arith)
+        by false t k j l = no-other j (omega arith) (omega arith)

@@ -10,8 +10,9 @@ use machine::Dims;
 use machine::Flags;
 use machine::Memory;
 ghost use mathlib.Core.Path.{_≡_};
-ghost use Prim.Native.Nat.{_≤_};
-ghost use lib.Dec.{ltb};
+ghost use mathlib.Core.Bool.{false};
+ghost use Prim.Native.Nat.{ℕ, _+_, _<_, _≤_};
+ghost use lib.Dec.{eqb, ltb};
 ghost use Rattle.laws.specs.Choice.{pick};
 ghost use Rattle.entry.specs.Packing.{noEntry};
 ghost use Rattle.machine.specs.State.{copyAt, withCopy};
@@ -48,12 +49,56 @@ fn reach(n: usize) -> usize
     n
 }
 
+// Four places from i on are looked at. No place from i to before the answer has the word.
+fn skip_words(entries: &Copies, p: usize, i: usize, word: u8) -> usize
+    requires { ⌜ i + 4 ≤ 64 ⌝ }
+    ensures { λ r. ⌜ ((k : ℕ) → i ≤ k → k < r → eqb (copyAt (now (entries .entry)) p k .word) word ≡ false) ⌝ }
+    ensures { λ r. ⌜ r ≤ i + 4 ⌝ }
+{
+    let j = p % 8 * 64 + i;
+    if entry::packed::has_word(entries[j], word) {
+        return i;
+    }
+    let j1 = j + 1;
+    if entry::packed::has_word(entries[j1], word) {
+        return i + 1;
+    }
+    let j2 = j + 2;
+    if entry::packed::has_word(entries[j2], word) {
+        return i + 2;
+    }
+    let j3 = j + 3;
+    if entry::packed::has_word(entries[j3], word) {
+        return i + 3;
+    }
+    i + 4
+}
+
+// Most entries are not of the word that is looked for. No place before the answer is.
+fn before_word(entries: &Copies, p: usize, n: usize, word: u8) -> usize
+    ensures { λ r. ⌜ ((k : ℕ) → k < r → eqb (copyAt (now (entries .entry)) p k .word) word ≡ false) ⌝ }
+{
+    let m = reach(n);
+    let mut i: usize = 0;
+    let at = loop {
+        if i >= m {
+            break i;
+        }
+        let k = skip_words(entries, p, i, word);
+        if k < i + 4 {
+            break k;
+        }
+        i += 4;
+    };
+    at
+}
+
 pub fn find_entry(entries: &Copies, p: usize, n: usize, tag: u8, word: u8) -> usize
     ensures { λ r. ⌜ r ≡ findEntry (now (entries .entry)) p n tag word ⌝ }
 {
     let base = p % 8 * 64;
     let m = reach(n);
-    let mut i: usize = 0;
+    let mut i: usize = before_word(entries, p, n, word);
     let at = loop {
         if i >= m {
             break n;
@@ -72,7 +117,7 @@ pub fn live_entry(entries: &Copies, p: usize, n: usize, word: u8) -> usize
 {
     let base = p % 8 * 64;
     let m = reach(n);
-    let mut i: usize = 0;
+    let mut i: usize = before_word(entries, p, n, word);
     let at = loop {
         if i >= m {
             break n;

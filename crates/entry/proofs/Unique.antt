@@ -35,6 +35,9 @@ use Rattle.entry.proofs.Entry.snooped.Reads as snooped-reads
 use Rattle.entry.proofs.packed.tag_of as tag-of
 use Rattle.entry.proofs.packed.tag_of.Kinds as tag-of-kinds
 use Rattle.entry.proofs.packed.tag_of.Reads as tag-of-reads
+use Rattle.entry.proofs.packed.has_word as has-word
+use Rattle.entry.proofs.packed.has_word.Kinds as has-word-kinds
+use Rattle.entry.proofs.packed.has_word.Reads as has-word-reads
 use Rattle.entry.proofs.packed.is_entry as is-entry
 use Rattle.entry.proofs.packed.is_entry.Kinds as is-entry-kinds
 use Rattle.entry.proofs.packed.is_entry.Reads as is-entry-reads
@@ -103,6 +106,11 @@ pub tag-of-unique : (κs : Lfts 0) (a : ArgsD tag-of.signature κs) (r r' : ResD
     (s s' : AtExit (endedOf 0 tag-of-kinds.ps tag-of-kinds.r) κs) → tag-of-reads.Post κs a r s → tag-of-reads.Post κs a r' s' →
     r ≡ r'
 tag-of-unique κs a r r' s s' p q = p ∙ sym q
+
+pub has-word-unique : (κs : Lfts 0) (a : ArgsD has-word.signature κs) (r r' : ResD has-word.signature κs)
+    (s s' : AtExit (endedOf 0 has-word-kinds.ps has-word-kinds.r) κs) → has-word-reads.Post κs a r s → has-word-reads.Post κs a r' s' →
+    r ≡ r'
+has-word-unique κs a r r' s s' p q = p ∙ sym q
 
 pub is-entry-unique : (κs : Lfts 0) (a : ArgsD is-entry.signature κs) (r r' : ResD is-entry.signature κs)
     (s s' : AtExit (endedOf 0 is-entry-kinds.ps is-entry-kinds.r) κs) → is-entry-reads.Post κs a r s → is-entry-reads.Post κs a r' s' →

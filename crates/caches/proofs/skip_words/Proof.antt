@@ -1,0 +1,147 @@
+use Prim.Native.Nat.{_+_}
+use native.Mathlib.Omega.{arith}
+use denote.Ref.{now}
+use Rattle.caches.proofs.Round.{none-yet, none-next}
+use Rattle.caches.proofs.Words.{ofWord, other-word}
+use borrow.Author.Needs.{needs}
+use Rattle.caches.proofs.skip_words.Statement.{statement}
+use Rattle.caches.proofs.skip_words.Tie as tie
+
+mul-j : tie.Need-mul-j
+mul-j c = search needs
+
+add-j : tie.Need-add-j
+add-j c = search needs
+
+mul-has-word : tie.Need-mul-has-word
+mul-has-word c = search needs
+
+element-copy-out-has-word : tie.Need-element-copy-out-has-word
+element-copy-out-has-word c = search needs
+
+has-word-requires : tie.Need-has-word-requires
+has-word-requires c κs = search needs
+
+returns : tie.Need-returns
+returns c = let x = c .before .before .before .args in let es = now (x .entries) in let q = ofWord es (x .p) (x .word) in
+    let n0 = none-yet q (x .i) in
+    (n0, search needs)
+
+add-j1 : tie.Need-add-j1
+add-j1 c = search needs
+
+mul-has-word-2 : tie.Need-mul-has-word-2
+mul-has-word-2 c = search needs
+
+element-copy-out-has-word-2 : tie.Need-element-copy-out-has-word-2
+element-copy-out-has-word-2 c = search needs
+
+has-word-requires-2 : tie.Need-has-word-requires-2
+has-word-requires-2 c κs = search needs
+
+add-result : tie.Need-add-result
+add-result c = search needs
+
+returns-2 : tie.Need-returns-2
+returns-2 c = let x = c .before .before .before .before .before .before .args in let es = now (x .entries) in let q = ofWord es (x .p) (x .word) in
+    let n0 = none-yet q (x .i) in
+    let o1 = other-word es (x .p) (x .word) (x .i) _ _ (c .before .before .before .before .has-word .ensures) (c .before .before .before .if1 .left) (search needs) (search needs) in
+    let n1 = none-next q (x .i) (x .i) (x .i + 1) n0 o1 (omega arith) in
+    (n1, search needs)
+
+add-j2 : tie.Need-add-j2
+add-j2 c = search needs
+
+mul-has-word-3 : tie.Need-mul-has-word-3
+mul-has-word-3 c = search needs
+
+element-copy-out-has-word-3 : tie.Need-element-copy-out-has-word-3
+element-copy-out-has-word-3 c = search needs
+
+has-word-requires-3 : tie.Need-has-word-requires-3
+has-word-requires-3 c κs = search needs
+
+add-result-2 : tie.Need-add-result-2
+add-result-2 c = search needs
+
+returns-3 : tie.Need-returns-3
+returns-3 c = let x = c .before .before .before .before .before .before .before .before .before .args in let es = now (x .entries) in let q = ofWord es (x .p) (x .word) in
+    let n0 = none-yet q (x .i) in
+    let o1 = other-word es (x .p) (x .word) (x .i) _ _ (c .before .before .before .before .before .before .before .has-word .ensures) (c .before .before .before .before .before .before .if1 .left) (search needs) (search needs) in
+    let n1 = none-next q (x .i) (x .i) (x .i + 1) n0 o1 (omega arith) in
+    let o2 = other-word es (x .p) (x .word) (x .i + 1) _ _ (c .before .before .before .before .has-word2 .ensures) (c .before .before .before .if2 .left) (search needs) (search needs) in
+    let n2 = none-next q (x .i) (x .i + 1) (x .i + 2) n1 o2 (omega arith) in
+    (n2, search needs)
+
+add-j3 : tie.Need-add-j3
+add-j3 c = search needs
+
+mul-has-word-4 : tie.Need-mul-has-word-4
+mul-has-word-4 c = search needs
+
+element-copy-out-has-word-4 : tie.Need-element-copy-out-has-word-4
+element-copy-out-has-word-4 c = search needs
+
+has-word-requires-4 : tie.Need-has-word-requires-4
+has-word-requires-4 c κs = search needs
+
+add-result-3 : tie.Need-add-result-3
+add-result-3 c = search needs
+
+returns-4 : tie.Need-returns-4
+returns-4 c = let x = c .before .before .before .before .before .before .before .before .before .before .before .before .args in let es = now (x .entries) in let q = ofWord es (x .p) (x .word) in
+    let n0 = none-yet q (x .i) in
+    let o1 = other-word es (x .p) (x .word) (x .i) _ _ (c .before .before .before .before .before .before .before .before .before .before .has-word .ensures) (c .before .before .before .before .before .before .before .before .before .if1 .left) (search needs) (search needs) in
+    let n1 = none-next q (x .i) (x .i) (x .i + 1) n0 o1 (omega arith) in
+    let o2 = other-word es (x .p) (x .word) (x .i + 1) _ _ (c .before .before .before .before .before .before .before .has-word2 .ensures) (c .before .before .before .before .before .before .if2 .left) (search needs) (search needs) in
+    let n2 = none-next q (x .i) (x .i + 1) (x .i + 2) n1 o2 (omega arith) in
+    let o3 = other-word es (x .p) (x .word) (x .i + 2) _ _ (c .before .before .before .before .has-word3 .ensures) (c .before .before .before .if3 .left) (search needs) (search needs) in
+    let n3 = none-next q (x .i) (x .i + 2) (x .i + 3) n2 o3 (omega arith) in
+    (n3, search needs)
+
+add-result-4 : tie.Need-add-result-4
+add-result-4 c = search needs
+
+returns-5 : tie.Need-returns-5
+returns-5 c = let x = c .before .before .before .before .before .before .before .before .before .before .before .before .args in let es = now (x .entries) in let q = ofWord es (x .p) (x .word) in
+    let n0 = none-yet q (x .i) in
+    let o1 = other-word es (x .p) (x .word) (x .i) _ _ (c .before .before .before .before .before .before .before .before .before .before .has-word .ensures) (c .before .before .before .before .before .before .before .before .before .if1 .left) (search needs) (search needs) in
+    let n1 = none-next q (x .i) (x .i) (x .i + 1) n0 o1 (omega arith) in
+    let o2 = other-word es (x .p) (x .word) (x .i + 1) _ _ (c .before .before .before .before .before .before .before .has-word2 .ensures) (c .before .before .before .before .before .before .if2 .left) (search needs) (search needs) in
+    let n2 = none-next q (x .i) (x .i + 1) (x .i + 2) n1 o2 (omega arith) in
+    let o3 = other-word es (x .p) (x .word) (x .i + 2) _ _ (c .before .before .before .before .has-word3 .ensures) (c .before .before .before .if3 .left) (search needs) (search needs) in
+    let n3 = none-next q (x .i) (x .i + 2) (x .i + 3) n2 o3 (omega arith) in
+    let o4 = other-word es (x .p) (x .word) (x .i + 3) _ _ (c .before .has-word4 .ensures) (c .if4 .left) (search needs) (search needs) in
+    let n4 = none-next q (x .i) (x .i + 3) (x .i + 4) n3 o4 (omega arith) in
+    (n4, search needs)
+
+pub skip-words-spec : {M : Type 1} → statement M
+skip-words-spec =
+    tie.close
+    (tie.spec
+    mul-j
+    add-j
+    mul-has-word
+    element-copy-out-has-word
+    has-word-requires
+    returns
+    add-j1
+    mul-has-word-2
+    element-copy-out-has-word-2
+    has-word-requires-2
+    add-result
+    returns-2
+    add-j2
+    mul-has-word-3
+    element-copy-out-has-word-3
+    has-word-requires-3
+    add-result-2
+    returns-3
+    add-j3
+    mul-has-word-4
+    element-copy-out-has-word-4
+    has-word-requires-4
+    add-result-3
+    returns-4
+    add-result-4
+    returns-5)
