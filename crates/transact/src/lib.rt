@@ -25,7 +25,7 @@ ghost use lib.Dec.{eqb};
 ghost use Rattle.laws.specs.Choice.{pick};
 ghost use Rattle.entry.specs.declared.answer.Answer.the-variants.{Aborted};
 ghost use Rattle.entry.specs.Numbers.{VALID, RESERVED, DIRTY, LT, T-RFO};
-ghost use Rattle.entry.specs.Answer.{answered, asked, quiet, noCycles};
+ghost use Rattle.entry.specs.Answer.{answered, asked, quiet};
 ghost use Rattle.machine.specs.State.{caches, outcome, counted};
 ghost use Rattle.machine.specs.Transact.{dropLine, finish, requestOf, hit, openNormal, clearBackup, fillBackup, fill, request, missAt, miss, seek, transact};
 
@@ -170,11 +170,10 @@ fn hit(
     if e.state != VALID {
         return finish(entries, op, p, i, v, quiet_counts(w));
     }
-    if snoop::refuses(entries, d, p, word, T_RFO) {
+    if snoop::request(memory, lines, entries, d, p, word, T_RFO) {
         caches::rollback(entries, flags, p, d.entries);
         return aborted(upgrade_counts(w, 1));
     }
-    snoop::snoop(memory, lines, entries, d, p, word, T_RFO);
     let f = e.with_state(RESERVED);
     entries[j] = f.pack();
     finish(entries, op, p, i, v, upgrade_counts(w, 0))
@@ -269,11 +268,10 @@ fn request(
     ensures { λ r. ⌜ outcome r (caches (now (memory .exit)) (now (lines .exit)) (now (entries .exit)) (now (flags .exit))) ≡ request d op p i b word v w (caches (now (memory .entry)) (now (lines .entry)) (now (entries .entry)) (now (flags .entry))) ⌝ }
 {
     let cycle = request_of(op);
-    if snoop::refuses(entries, d, p, word, cycle) {
+    if snoop::request(memory, lines, entries, d, p, word, cycle) {
         caches::rollback(entries, flags, p, d.entries);
         return aborted(request_counts(op, w, 1));
     }
-    snoop::snoop(memory, lines, entries, d, p, word, cycle);
     let a = word as usize;
     let supplied = memory[a];
     fill(entries, d, op, p, i, b, word, supplied, v, w)

@@ -1,25 +1,38 @@
-use Rattle.machine.specs.Bus.{otherOpposes, firstOpposing}
+use lib.ListN.{length, length-set}
 use Prim.Native.Nat.{_≤_, _-_}
 use mathlib.Core.Path.{_≡_, _∙_, sym}
 use native.Mathlib.Nat.{sub-zero}
 use native.Mathlib.Omega.{arith}
+use denote.Ref.{now}
 use Rattle.laws.specs.Search.{firstFrom, first-end, first-hit, first-miss}
+use Rattle.machine.specs.Bus.{otherOpposes, firstOpposing}
+use Rattle.snoop.specs.Firsts.{noted}
+use Rattle.snoop.proofs.Apart.{note}
 use borrow.Author.Needs.{needs}
 use Rattle.snoop.proofs.first_opposing.Statement.{statement}
 use Rattle.snoop.proofs.first_opposing.Tie as tie
 
 abbrev Inv-loop : tie.InvT-loop
-Inv-loop entries d p word cycle n q₀ q = (q ≤ n) × (firstFrom (otherOpposes d p word cycle entries) q (n - q) ≡ firstOpposing d p word cycle entries)
+Inv-loop entries firsts₀ d p word cycle n q₀ firsts q = (q ≤ n) × (firstFrom (otherOpposes d p word cycle entries) q (n - q) ≡ firstOpposing d p word cycle entries) × (noted d p word firsts entries q) × (length firsts ≡ 8)
 
 abbrev μ-loop : tie.MeasureT-loop
-μ-loop entries d p word cycle n q₀ q = n - q
+μ-loop entries firsts₀ d p word cycle n q₀ firsts q = n - q
 
 loop-holds : tie.Need-loop-holds Inv-loop μ-loop
 unfolding firstOpposing
-loop-holds c = (search needs, rw sub-zero)
+loop-holds c = (search needs, rw sub-zero, λ few k a. absurd (omega arith), c .pre)
 
-other-opposing-requires : tie.Need-other-opposing-requires Inv-loop μ-loop
-other-opposing-requires c κs = search needs
+first-of-requires : tie.Need-first-of-requires Inv-loop μ-loop
+first-of-requires c κs = search needs
+
+mul-firsts : tie.Need-mul-firsts Inv-loop μ-loop
+mul-firsts c = search needs
+
+element-write-firsts : tie.Need-element-write-firsts Inv-loop μ-loop
+element-write-firsts c = search needs
+
+opposing-from-requires : tie.Need-opposing-from-requires Inv-loop μ-loop
+opposing-from-requires c κs = c .first-of .ensures
 
 add-q : tie.Need-add-q Inv-loop μ-loop
 add-q c = search needs
@@ -28,13 +41,15 @@ loop-less : tie.Need-loop-less Inv-loop μ-loop
 loop-less c = search needs
 
 loop-again : tie.Need-loop-again Inv-loop μ-loop
-loop-again c = (search needs, sym (first-miss _ _ _ (search needs) (sym (c .before .other-opposing .ensures) ∙ c .if2 .left)) ∙ c .before .before .before .loop .inv .1)
+loop-again c = let x = c .before .before .before .before .before .args in
+    (search needs, sym (first-miss _ _ _ (search needs) (sym (c .before .opposing-from .ensures) ∙ c .if2 .left)) ∙ c .before .before .before .before .loop .inv .1, note (x .d) (x .p) (x .word) (c .before .before .before .before .loop .firsts) (now (x .entries)) (c .before .before .before .before .loop .q) _ (search needs) (c .before .before .before .before .loop .inv .3) (c .before .before .first-of .ensures) (c .before .before .before .before .loop .inv .2), length-set (c .before .before .before .before .loop .firsts) _ _ ∙ c .before .before .before .before .loop .inv .3)
 
 returns : tie.Need-returns Inv-loop μ-loop
-returns c = (omega arith) ∙ sym (first-end _ _ _ (search needs)) ∙ c .before .loop .inv .1
+returns c = ((omega arith) ∙ sym (first-end _ _ _ (search needs)) ∙ c .before .loop .inv .1, λ few k a. c .before .loop .inv .2 few k (search needs))
 
 returns-2 : tie.Need-returns-2 Inv-loop μ-loop
-returns-2 c = sym (first-hit _ _ _ (search needs) (sym (c .before .other-opposing .ensures) ∙ c .if2 .taken)) ∙ c .before .before .before .loop .inv .1
+returns-2 c = let x = c .before .before .before .before .before .args in
+    (sym (first-hit _ _ _ (search needs) (sym (c .before .opposing-from .ensures) ∙ c .if2 .taken)) ∙ c .before .before .before .before .loop .inv .1, λ few k a. note (x .d) (x .p) (x .word) (c .before .before .before .before .loop .firsts) (now (x .entries)) (c .before .before .before .before .loop .q) _ (search needs) (c .before .before .before .before .loop .inv .3) (c .before .before .first-of .ensures) (c .before .before .before .before .loop .inv .2) few k (omega arith))
 
 pub first-opposing-spec : {M : Type 1} → statement M
 first-opposing-spec =
@@ -43,7 +58,10 @@ first-opposing-spec =
     Inv-loop
     μ-loop
     loop-holds
-    other-opposing-requires
+    first-of-requires
+    mul-firsts
+    element-write-firsts
+    opposing-from-requires
     add-q
     loop-less
     loop-again

@@ -11,13 +11,6 @@ returns : tie.Need-returns
 unfolding opposes
 returns c = rw (← c .before .before .find-entry .ensures, le-ltb _ _ (c .if1 .taken))
 
-taking-requires : tie.Need-taking-requires
-taking-requires c κs = search needs
-
-returns-2 : tie.Need-returns-2
-unfolding opposes
-returns-2 c = rw (← c .before .before .before .before .find-entry .ensures, lt-ltb _ _ (c .before .before .if1 .left), ← c .before .taking .ensures, c .if2 .taken)
-
 mul-j : tie.Need-mul-j
 mul-j c = search needs
 
@@ -33,9 +26,12 @@ element-copy-out-unpack c = search needs
 unpack-requires : tie.Need-unpack-requires
 unpack-requires c κs = search needs
 
-returns-3 : tie.Need-returns-3
+against-requires : tie.Need-against-requires
+against-requires c κs = search needs
+
+returns-2 : tie.Need-returns-2
 unfolding opposes
-returns-3 c = rw (← c .before .before .before .before .before .before .before .find-entry .ensures, lt-ltb _ _ (c .before .before .before .before .before .if1 .left), ← c .before .before .before .before .taking .ensures, c .before .before .before .if2 .left, c .before .unpack .ensures)
+returns-2 c = rw (← c .before .before .before .before .before .find-entry .ensures, lt-ltb _ _ (c .before .before .before .if1 .left), c .against .ensures, c .before .unpack .ensures)
 
 pub opposing-spec : {M : Type 1} → statement M
 opposing-spec =
@@ -43,11 +39,10 @@ opposing-spec =
     (tie.spec
     find-entry-requires
     returns
-    taking-requires
-    returns-2
     mul-j
     add-j
     mul-unpack
     element-copy-out-unpack
     unpack-requires
-    returns-3)
+    against-requires
+    returns-2)

@@ -1,4 +1,4 @@
-use Rattle.machine.specs.Bus.{snoop, plainRequest}
+use Rattle.machine.specs.Bus.{plainRequest}
 use borrow.Author.Needs.{needs}
 use Rattle.snoop.proofs.plain_request.Statement.{statement}
 use Rattle.snoop.proofs.plain_request.Tie as tie
@@ -11,7 +11,7 @@ snoop-requires c κs = search needs
 
 returns : tie.Need-returns
 unfolding plainRequest
-returns c = rw (← c .before .before .before .before .roll-others .ensures _ _) (c .snoop .ensures _)
+returns c = rw (← c .before .before .before .before .before .roll-others .ensures .0 _ _) (c .snoop .ensures _)
 
 pub plain-request-spec : {M : Type 1} → statement M
 plain-request-spec = tie.close (tie.spec roll-others-requires snoop-requires returns)

@@ -1,21 +1,41 @@
 use Rattle.machine.specs.Bus.{rollOne}
+use Rattle.snoop.proofs.Firsts.{none-opposes}
 use borrow.Author.Needs.{needs}
 use Rattle.snoop.proofs.roll_one.Statement.{statement}
 use Rattle.snoop.proofs.roll_one.Tie as tie
 
-other-opposing-requires : tie.Need-other-opposing-requires
-other-opposing-requires c κs = search needs
+first-of-requires : tie.Need-first-of-requires
+first-of-requires c κs = search needs
+
+returns : tie.Need-returns
+unfolding rollOne
+returns c = let x = c .before .before .before .before .args in (λ m l. rw (none-opposes (x .d) (x .p) (x .word) (x .cycle) _ (x .q) _ (c .before .before .first-of .ensures) (c .if1 .taken)), c .before .before .first-of .ensures)
+
+opposing-at-requires : tie.Need-opposing-at-requires
+opposing-at-requires c κs = search needs
 
 rollback-requires : tie.Need-rollback-requires
 rollback-requires c κs = search needs
 
-returns : tie.Need-returns
-unfolding rollOne
-returns c = λ m l. rw (← c .before .before .before .before .other-opposing .ensures, c .before .before .before .if1 .taken, c .rollback .ensures .0, c .rollback .ensures .1)
+first-of-requires-2 : tie.Need-first-of-requires-2
+first-of-requires-2 c κs = search needs
 
 returns-2 : tie.Need-returns-2
 unfolding rollOne
-returns-2 c = λ m l. rw (← c .before .other-opposing .ensures, c .if1 .left)
+returns-2 c = (λ m l. rw (← c .before .before .before .before .before .before .opposing-at .ensures, c .before .before .before .before .before .if2 .taken, c .before .before .rollback .ensures .0, c .before .before .rollback .ensures .1), c .first-of2 .ensures)
+
+returns-3 : tie.Need-returns-3
+unfolding rollOne
+returns-3 c = (λ m l. rw (← c .before .opposing-at .ensures, c .if2 .left), c .before .before .before .before .before .first-of .ensures)
 
 pub roll-one-spec : {M : Type 1} → statement M
-roll-one-spec = tie.close (tie.spec other-opposing-requires rollback-requires returns returns-2)
+roll-one-spec =
+    tie.close
+    (tie.spec
+    first-of-requires
+    returns
+    opposing-at-requires
+    rollback-requires
+    first-of-requires-2
+    returns-2
+    returns-3)

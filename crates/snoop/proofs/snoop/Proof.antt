@@ -1,30 +1,35 @@
-use Rattle.machine.specs.Bus.{snoopOne, snoop}
-use Prim.Native.Nat.{_≤_, _-_}
+use Prim.Native.Nat.{ℕ, _≤_, _-_}
 use mathlib.Core.Path.{_≡_, _∙_, sym}
+use mathlib.Core.List.{List, []}
 use native.Mathlib.Nat.{sub-zero}
-use Prim.Native.Nat.{ℕ}
-use mathlib.Core.List.{List}
+use native.Mathlib.Omega.{arith}
+use denote.Ref.{now}
 use Rattle.laws.specs.Fold.{foldRange, fold-end, fold-turn}
 use Rattle.machine.specs.State.{caches}
 use Rattle.machine.specs.Own.{home}
+use Rattle.machine.specs.Bus.{snoopOne, snoop}
+use Rattle.snoop.proofs.Apart.{left, snooped-left}
 use borrow.Author.Needs.{needs}
 use Rattle.snoop.proofs.snoop.Statement.{statement}
 use Rattle.snoop.proofs.snoop.Tie as tie
 
 abbrev Inv-loop : tie.InvT-loop
-Inv-loop memory₀ lines₀ entries₀ d p word cycle i n q₀ memory lines entries q = (q ≤ n) × ((f : List ℕ) → foldRange (snoopOne d i p word cycle) q (n - q) (caches memory lines entries f) ≡ foldRange (snoopOne d i p word cycle) 0 n (caches memory₀ lines₀ entries₀ f))
+Inv-loop memory₀ lines₀ entries₀ firsts d p word cycle i n q₀ memory lines entries q = (q ≤ n) × ((f : List ℕ) → foldRange (snoopOne d i p word cycle) q (n - q) (caches memory lines entries f) ≡ foldRange (snoopOne d i p word cycle) 0 n (caches memory₀ lines₀ entries₀ f)) × left d p word firsts entries q
 
 abbrev μ-loop : tie.MeasureT-loop
-μ-loop memory₀ lines₀ entries₀ d p word cycle i n q₀ memory lines entries q = n - q
+μ-loop memory₀ lines₀ entries₀ firsts d p word cycle i n q₀ memory lines entries q = n - q
 
 home-requires : tie.Need-home-requires Inv-loop μ-loop
 home-requires c κs = search needs
 
 loop-holds : tie.Need-loop-holds Inv-loop μ-loop
-loop-holds c = (search needs, λ f. rw sub-zero)
+loop-holds c = (search needs, λ f. rw sub-zero, λ few k a b. c .before .pre few k b)
 
-snoop-one-requires : tie.Need-snoop-one-requires Inv-loop μ-loop
-snoop-one-requires c κs = search needs
+noted-first-requires : tie.Need-noted-first-requires Inv-loop μ-loop
+noted-first-requires c κs = λ few. c .before .before .loop .inv .2 few (c .before .before .loop .q) (omega arith) (search needs)
+
+snoop-at-requires : tie.Need-snoop-at-requires Inv-loop μ-loop
+snoop-at-requires c κs = c .before .before .before .noted-first .ensures
 
 add-q : tie.Need-add-q Inv-loop μ-loop
 add-q c = search needs
@@ -33,7 +38,8 @@ loop-less : tie.Need-loop-less Inv-loop μ-loop
 loop-less c = search needs
 
 loop-again : tie.Need-loop-again Inv-loop μ-loop
-loop-again c = (search needs, λ f. rw (c .snoop-one .ensures f) (sym (fold-turn _ _ _ _ (search needs)) ∙ c .before .before .before .before .before .loop .inv .1 f))
+loop-again c = let x = c .before .before .before .before .before .before .before .before .before .args in
+    (search needs, λ f. rw (c .snoop-at .ensures f) (sym (fold-turn _ _ _ _ (search needs)) ∙ c .before .before .before .before .before .before .before .loop .inv .1 f), snooped-left (x .d) _ (x .p) (x .word) (x .cycle) (c .before .before .before .before .before .before .before .loop .q) (now (x .firsts)) _ _ (c .snoop-at .ensures []) (search needs) (c .before .before .before .before .before .before .before .loop .inv .2))
 
 returns : tie.Need-returns Inv-loop μ-loop
 unfolding snoop
@@ -47,7 +53,8 @@ snoop-spec =
     μ-loop
     home-requires
     loop-holds
-    snoop-one-requires
+    noted-first-requires
+    snoop-at-requires
     add-q
     loop-less
     loop-again

@@ -21,24 +21,12 @@ unpack-requires c κs = search needs
 holds-requires : tie.Need-holds-requires
 holds-requires c κs = search needs
 
-write-back-requires : tie.Need-write-back-requires
-write-back-requires c κs = search needs
-
-snooped-requires : tie.Need-snooped-requires
-snooped-requires c κs = search needs
-
-pack-requires : tie.Need-pack-requires
-pack-requires c κs = search needs
-
-mul-lines : tie.Need-mul-lines
-mul-lines c = search needs
-
-element-write-lines : tie.Need-element-write-lines
-element-write-lines c = search needs
+snoop-copy-requires : tie.Need-snoop-copy-requires
+snoop-copy-requires c κs = search needs
 
 returns : tie.Need-returns
 unfolding snoopLine
-returns c = λ e f. let u = c .before .before .before .before .before .before .unpack .ensures in rw (← (rw u at (c .before .before .before .before .before .holds .ensures)), c .before .before .before .before .if1 .taken, c .pack .ensures, c .before .snooped .ensures, c .before .before .write-back .ensures .0, u)
+returns c = λ e f. rw (← (rw (c .before .before .before .before .before .unpack .ensures) at (c .before .before .before .before .holds .ensures)), c .before .before .before .if1 .taken, c .snoop-copy .ensures .0, c .snoop-copy .ensures .1)
 
 returns-2 : tie.Need-returns-2
 unfolding snoopLine
@@ -54,10 +42,6 @@ snoop-line-spec =
     element-copy-out-unpack
     unpack-requires
     holds-requires
-    write-back-requires
-    snooped-requires
-    pack-requires
-    mul-lines
-    element-write-lines
+    snoop-copy-requires
     returns
     returns-2)

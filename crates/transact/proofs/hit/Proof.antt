@@ -1,5 +1,10 @@
+use mathlib.Core.Path.{ap}
+use mathlib.Core.List.{[]}
 use borrow.Author.Tests.{eq-eqb, ne-eqb}
+use denote.Ref.{now}
+use Rattle.machine.specs.State.{Caches}
 use Rattle.machine.specs.Transact.{finish, hit}
+use Rattle.transact.proofs.Asked.{refused, passed}
 use borrow.Author.Needs.{needs}
 use Rattle.transact.proofs.hit.Statement.{statement}
 use Rattle.transact.proofs.hit.Tie as tie
@@ -42,8 +47,8 @@ returns-2 : tie.Need-returns-2
 unfolding hit
 returns-2 c = rw (ne-eqb _ _ (c .before .before .before .before .before .before .before .if1 .left), ne-eqb _ _ (rw (c .before .before .before .before .before .unpack .ensures) at (c .before .before .before .if2 .taken)), ← c .before .quiet-counts2 .ensures) (c .finish2 .ensures _ _ _)
 
-refuses-requires : tie.Need-refuses-requires
-refuses-requires c κs = search needs
+request-requires : tie.Need-request-requires
+request-requires c κs = search needs
 
 rollback-requires : tie.Need-rollback-requires
 rollback-requires c κs = search needs
@@ -56,10 +61,8 @@ aborted-requires c κs = search needs
 
 returns-3 : tie.Need-returns-3
 unfolding hit
-returns-3 c = rw (ne-eqb _ _ (c .before .before .before .before .before .before .before .before .before .before .before .before .if1 .left), eq-eqb _ _ (rw (c .before .before .before .before .before .before .before .before .before .before .unpack .ensures) at (c .before .before .before .before .before .before .before .before .if2 .left)), ← c .before .before .before .before .before .before .refuses .ensures, c .before .before .before .before .before .if3 .taken, c .aborted .ensures, c .before .upgrade-counts .ensures, ← c .before .before .rollback .ensures .0, ← c .before .before .rollback .ensures .1)
-
-snoop-requires : tie.Need-snoop-requires
-snoop-requires c κs = search needs
+returns-3 c = let k = refused _ _ _ _ (c .before .before .before .before .before .before .request .ensures .1 []) (c .before .before .before .before .before .if3 .taken) in
+    rw (ne-eqb _ _ (c .before .before .before .before .before .before .before .before .before .before .before .before .before .before .if1 .left), eq-eqb _ _ (rw (c .before .before .before .before .before .before .before .before .before .before .before .before .unpack .ensures) at (c .before .before .before .before .before .before .before .before .before .before .if2 .left)), ← c .before .before .before .before .before .before .request .ensures .0, c .before .before .before .before .before .if3 .taken, c .aborted .ensures, c .before .upgrade-counts .ensures, c .before .before .rollback .ensures .0, c .before .before .rollback .ensures .1, ap (λ (s : Caches). s .memory) k, ap (λ (s : Caches). s .lines) k, ap (λ (s : Caches). s .entries) k)
 
 with-state-requires : tie.Need-with-state-requires
 with-state-requires c κs = search needs
@@ -81,7 +84,10 @@ finish-requires-3 c κs = search needs
 
 returns-4 : tie.Need-returns-4
 unfolding hit
-returns-4 c = let k = rw (c .before .before .before .before .with-state .ensures, c .before .before .before .before .before .before .before .before .before .before .before .before .before .before .unpack .ensures) at (c .before .before .before .pack .ensures) in rw (ne-eqb _ _ (c .before .before .before .before .before .before .before .before .before .before .before .before .before .before .before .before .if1 .left), eq-eqb _ _ (rw (c .before .before .before .before .before .before .before .before .before .before .before .before .before .before .unpack .ensures) at (c .before .before .before .before .before .before .before .before .before .before .before .before .if2 .left)), ← c .before .before .before .before .before .before .before .before .before .before .refuses .ensures, c .before .before .before .before .before .before .before .before .before .if3 .left, ← c .before .upgrade-counts2 .ensures) (rw (← c .before .before .before .before .before .snoop .ensures _, ← k) (c .finish3 .ensures _ _ _))
+returns-4 c = let x = c .before .before .before .before .before .before .before .before .before .before .before .before .before .before .before .args in
+    let k = rw (c .before .before .before .before .with-state .ensures, c .before .before .before .before .before .before .before .before .before .before .before .before .unpack .ensures) at (c .before .before .before .pack .ensures) in
+    let s = passed _ _ _ _ (c .before .before .before .before .before .before .request .ensures .1 (now (x .flags))) (c .before .before .before .before .before .if3 .left) in
+    rw (ne-eqb _ _ (c .before .before .before .before .before .before .before .before .before .before .before .before .before .before .if1 .left), eq-eqb _ _ (rw (c .before .before .before .before .before .before .before .before .before .before .before .before .unpack .ensures) at (c .before .before .before .before .before .before .before .before .before .before .if2 .left)), ← c .before .before .before .before .before .before .request .ensures .0, c .before .before .before .before .before .if3 .left, ← c .before .upgrade-counts2 .ensures) (rw (← s, ← k) (c .finish3 .ensures _ _ _))
 
 pub hit-spec : {M : Type 1} → statement M
 hit-spec =
@@ -99,12 +105,11 @@ hit-spec =
     quiet-counts-requires-2
     finish-requires-2
     returns-2
-    refuses-requires
+    request-requires
     rollback-requires
     upgrade-counts-requires
     aborted-requires
     returns-3
-    snoop-requires
     with-state-requires
     pack-requires
     mul-entries

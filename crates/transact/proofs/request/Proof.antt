@@ -1,4 +1,9 @@
+use mathlib.Core.Path.{ap}
+use mathlib.Core.List.{[]}
+use denote.Ref.{now}
+use Rattle.machine.specs.State.{Caches}
 use Rattle.machine.specs.Transact.{fill, request}
+use Rattle.transact.proofs.Asked.{refused, passed}
 use borrow.Author.Needs.{needs}
 use Rattle.transact.proofs.request.Statement.{statement}
 use Rattle.transact.proofs.request.Tie as tie
@@ -6,8 +11,8 @@ use Rattle.transact.proofs.request.Tie as tie
 request-of-requires : tie.Need-request-of-requires
 request-of-requires c κs = search needs
 
-refuses-requires : tie.Need-refuses-requires
-refuses-requires c κs = search needs
+request-requires : tie.Need-request-requires
+request-requires c κs = search needs
 
 rollback-requires : tie.Need-rollback-requires
 rollback-requires c κs = search needs
@@ -20,10 +25,8 @@ aborted-requires c κs = search needs
 
 returns : tie.Need-returns
 unfolding request
-returns c = rw (c .aborted .ensures, c .before .request-counts .ensures, ← c .before .before .before .before .before .before .before .before .request-of .ensures, ← c .before .before .before .before .before .before .refuses .ensures, c .before .before .before .before .before .if1 .taken, ← c .before .before .rollback .ensures .0, ← c .before .before .rollback .ensures .1)
-
-snoop-requires : tie.Need-snoop-requires
-snoop-requires c κs = search needs
+returns c = let k = refused _ _ _ _ (c .before .before .before .before .before .before .request .ensures .1 []) (c .before .before .before .before .before .if1 .taken) in
+    rw (c .aborted .ensures, c .before .request-counts .ensures, ← c .before .before .before .before .before .before .before .before .before .before .request-of .ensures, ← c .before .before .before .before .before .before .request .ensures .0, c .before .before .before .before .before .if1 .taken, c .before .before .rollback .ensures .0, c .before .before .rollback .ensures .1, ap (λ (s : Caches). s .memory) k, ap (λ (s : Caches). s .lines) k, ap (λ (s : Caches). s .entries) k)
 
 mul-supplied : tie.Need-mul-supplied
 mul-supplied c = search needs
@@ -36,19 +39,20 @@ fill-requires c κs = search needs
 
 returns-2 : tie.Need-returns-2
 unfolding request
-returns-2 c = rw (← c .before .before .before .before .before .before .before .before .before .before .request-of .ensures, ← c .before .before .before .before .before .before .before .before .refuses .ensures, c .before .before .before .before .before .before .before .if1 .left) (rw (← c .before .before .before .snoop .ensures _) (c .fill .ensures _ _ _))
+returns-2 c = let x = c .before .before .before .before .before .before .before .before .before .args in
+    let k = passed _ _ _ _ (c .before .before .before .before .request .ensures .1 (now (x .flags))) (c .before .before .before .if1 .left) in
+    rw (← c .before .before .before .before .before .before .before .before .request-of .ensures, ← c .before .before .before .before .request .ensures .0, c .before .before .before .if1 .left) (rw (← k) (c .fill .ensures _ _ _))
 
 pub request-spec : {M : Type 1} → statement M
 request-spec =
     tie.close
     (tie.spec
     request-of-requires
-    refuses-requires
+    request-requires
     rollback-requires
     request-counts-requires
     aborted-requires
     returns
-    snoop-requires
     mul-supplied
     element-copy-out-supplied
     fill-requires
