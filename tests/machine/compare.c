@@ -1,11 +1,12 @@
 #include "compare.h"
 
 #include <inttypes.h>
+#include <setjmp.h>
 #include <stdio.h>
-#include <stdlib.h>
 #include <string.h>
 
 #include "check.h"
+#include "limits.h"
 #include "ours.h"
 #include "shrink.h"
 #include "tell.h"
@@ -18,11 +19,11 @@ struct amount {
 
 static void (*running)(uint64_t); /* the test that runs, and its seed */
 static uint64_t running_seed;
+static jmp_buf end_of_test;
 static struct amount all;
 static struct amount here; /* of the test that runs */
 static size_t differences;
 static bool told;
-static bool ends_there;
 static size_t answers[ANSWERS];
 static size_t refusals[REFUSED_LENGTH + 1];
 
@@ -65,10 +66,14 @@ static void count(const struct job *job, const struct reply *reply)
     }
 }
 
-static _Noreturn void end_tests(void)
+/* The first of all is told. */
+static void meet_difference(const struct job *job)
 {
-    printf("FAILED the two machines differ\n");
-    exit(EXIT_FAILURE);
+    differences++;
+    if (!told)
+        tell_difference(job);
+    told = true;
+    limits_differ();
 }
 
 void compare(const struct job *job, struct reply *reply)
@@ -77,26 +82,18 @@ void compare(const struct job *job, struct reply *reply)
     ours_answer(job, reply);
     twin_answer(job, &twin);
     count(job, &twin);
-    if (memcmp(reply, &twin, sizeof twin) == 0)
-        return;
-    differences++;
-    if (!told)
-        tell_difference(job);
-    told = true;
-    if (ends_there)
-        end_tests();
-}
-
-void end_at_a_difference(void)
-{
-    ends_there = true;
+    if (memcmp(reply, &twin, sizeof twin) != 0)
+        meet_difference(job);
+    if (limits_reached())
+        longjmp(end_of_test, 1);
 }
 
 static void run_body(void)
 {
     here = (struct amount){0, 0};
     differences = 0;
-    running(running_seed);
+    if (setjmp(end_of_test) == 0)
+        running(running_seed);
     expect(differences == 0, "%zu of %zu jobs differ", differences, here.jobs);
     printf("  seed %" PRIu64 ": %zu jobs, %zu steps\n", running_seed, here.jobs,
            here.steps);
@@ -104,10 +101,12 @@ static void run_body(void)
     all.steps += here.steps;
 }
 
-void compared_test(const char *name, uint64_t seed, void (*body)(uint64_t seed))
+void compared_test(const char *name, uint64_t number, void (*body)(uint64_t seed))
 {
+    if (limits_reached())
+        return;
     running = body;
-    running_seed = seed;
+    running_seed = test_seed(number);
     test(name, run_body);
 }
 

@@ -6,16 +6,14 @@
 
 #include "job.h"
 
-/* A test, with the seed of all that it draws. */
-void compared_test(const char *name, uint64_t seed, void (*body)(uint64_t seed));
+/* A test, with its number, which makes the seed of all that it draws. It ends
+ * where the limits are reached. */
+void compared_test(const char *name, uint64_t number, void (*body)(uint64_t seed));
 
 /* Gives the job to both, and hands out what the proved machine replied. A
  * difference fails the test; the first of all is told, with the shortest job
  * that still shows one. */
 void compare(const struct job *job, struct reply *reply);
-
-/* From here on the first difference ends the tests. */
-void end_at_a_difference(void);
 
 /* How often both have given this answer, or this refusal, so far. */
 size_t answers_met(enum answer_kind answer);

@@ -1,6 +1,6 @@
-/* A job for the driver of the proved machine (crates/trial) and its reply, byte
- * for byte as they are sent: every number is little-endian, and there is no
- * padding. */
+/* A job for the proved machine and its reply, byte for byte as they are sent to
+ * its driver (crates/trial) and back: every number is little-endian, and there is
+ * no padding. */
 #ifndef JOB_H
 #define JOB_H
 
@@ -69,6 +69,12 @@ struct reply {
     struct state state;
     struct written_columns written;
 };
+
+/* The reply of a function that hands nothing back. */
+void reply_as_it_came(struct reply *reply, const struct job *job);
+
+/* A refused making hands back the smallest machine. */
+void reply_smallest(struct reply *reply);
 
 static_assert(sizeof(struct job) == 11904, "a job has no padding");
 static_assert(sizeof(struct reply) == 11208, "a reply has no padding");

@@ -1,13 +1,13 @@
-/* Compares the proved machine, by its driver, with the second program: `all`
- * that there is to compare, or up to the `first` difference. The arguments
- * after that word are the command that runs the driver. */
+/* Compares the proved machine with the second program, as far as the limits say.
+ * The arguments after them are the command that runs the driver, where it is
+ * asked through one. */
 #include <stdio.h>
 #include <stdlib.h>
-#include <string.h>
 
 #include "check.h"
 #include "compare.h"
-#include "driver.h"
+#include "limits.h"
+#include "ours.h"
 #include "suites.h"
 
 static void everything_is_met(void)
@@ -18,26 +18,25 @@ static void everything_is_met(void)
         expect(refusals_met(refusal) > 0, "no refusal %d", refusal);
 }
 
-static void driver_ends(void)
+static void ours_ends(void)
 {
-    expect(driver_end(), "the driver writes more, or does not end well");
+    expect(ours_end(), "the driver writes more, or does not end well");
 }
 
 int main(int argc, char **argv)
 {
-    if (argc < 3 || (strcmp(argv[1], "all") != 0 && strcmp(argv[1], "first") != 0)) {
-        fprintf(stderr, "usage: %s all|first COMMAND [ARGUMENT..]\n", argv[0]);
-        return EXIT_FAILURE;
+    if (argc <= LIMITS || !limits_read(argv + 1)) {
+        fprintf(stderr, "usage: %s " LIMITS_USAGE " [COMMAND [ARGUMENT..]]\n", argv[0]);
+        return 2;
     }
-    if (strcmp(argv[1], "first") == 0)
-        end_at_a_difference();
-    driver_start(argv + 2);
+    ours_start(argv + 1 + LIMITS);
     test_making();
     test_stepping();
     test_running();
     test_soundness();
-    test("every answer and every refusal is met", everything_is_met);
-    test("the driver ends with its input", driver_ends);
+    if (!limits_reached())
+        test("every answer and every refusal is met", everything_is_met);
+    test("the proved machine ends with its jobs", ours_ends);
     tell_compared();
     return any_failed() ? EXIT_FAILURE : EXIT_SUCCESS;
 }

@@ -1,7 +1,5 @@
 #include "twin.h"
 
-#include <string.h>
-
 #include "pack.h"
 #include "run.h"
 #include "sound.h"
@@ -12,17 +10,16 @@ static void hand_back(struct reply *reply, const struct machine *machine)
     pack_state(&reply->state, machine);
 }
 
-/* A refused making hands back the smallest machine. */
 static void make(const struct job *job, struct reply *reply)
 {
-    static const uint32_t nothing[1] = {0};
     struct machine machine;
     struct dimensions dimensions = unpack_dimensions(job->dimensions);
     reply->refusal =
         machine_make(&machine, dimensions, job->state.memory, job->memory_length);
-    if (reply->refusal != NOT_REFUSED)
-        machine_make(&machine, (struct dimensions){1, 1, 1, 1}, nothing, 1);
-    hand_back(reply, &machine);
+    if (reply->refusal == NOT_REFUSED)
+        hand_back(reply, &machine);
+    else
+        reply_smallest(reply);
 }
 
 /* The state of a job as the second program has it, and whether it is sound. */
@@ -120,10 +117,7 @@ static void run(const struct job *job, struct reply *reply)
 
 void twin_answer(const struct job *job, struct reply *reply)
 {
-    memset(reply, 0, sizeof *reply);
-    memcpy(reply->dimensions, job->dimensions, sizeof reply->dimensions);
-    reply->state = job->state;
-    reply->written = job->written;
+    reply_as_it_came(reply, job);
     switch ((enum job_kind)job->kind) {
     case JOB_MAKE: make(job, reply); break;
     case JOB_SOUND: sound(job, reply); break;

@@ -1,11 +1,13 @@
 #include "compare.h"
 
 #include <inttypes.h>
+#include <setjmp.h>
 #include <stdbool.h>
 #include <stdio.h>
 #include <string.h>
 
 #include "check.h"
+#include "limits.h"
 #include "met.h"
 #include "names.h"
 #include "ours.h"
@@ -15,6 +17,7 @@
 
 static void (*running)(uint64_t); /* the test that runs, and its seed */
 static uint64_t running_seed;
+static jmp_buf end_of_test;
 static size_t texts; /* of the test that runs */
 static size_t differences;
 static size_t all_texts;
@@ -44,18 +47,26 @@ static void tell_difference(const struct job *job)
     tell_reply(&shortest, &twin);
 }
 
+/* The first of all is told. */
+static void meet_difference(const struct job *job)
+{
+    differences++;
+    if (!told)
+        tell_difference(job);
+    told = true;
+    limits_differ();
+}
+
 void compare(const struct job *job)
 {
     texts++;
     bool differs = differ(job);
     if (job->room >= LINE_ROOM) /* else no line was compared */
         meet(&listing);
-    if (!differs)
-        return;
-    differences++;
-    if (!told)
-        tell_difference(job);
-    told = true;
+    if (differs)
+        meet_difference(job);
+    if (limits_reached())
+        longjmp(end_of_test, 1);
 }
 
 static void run_body(void)
@@ -63,17 +74,20 @@ static void run_body(void)
     size_t lines_before = lines_met();
     texts = 0;
     differences = 0;
-    running(running_seed);
+    if (setjmp(end_of_test) == 0)
+        running(running_seed);
     expect(differences == 0, "%zu of %zu texts differ", differences, texts);
     printf("  seed %" PRIu64 ": %zu texts, %zu lines\n", running_seed, texts,
            lines_met() - lines_before);
     all_texts += texts;
 }
 
-void compared_test(const char *name, uint64_t seed, void (*body)(uint64_t seed))
+void compared_test(const char *name, uint64_t number, void (*body)(uint64_t seed))
 {
+    if (limits_reached())
+        return;
     running = body;
-    running_seed = seed;
+    running_seed = test_seed(number);
     test(name, run_body);
 }
 

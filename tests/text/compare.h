@@ -4,8 +4,9 @@
 
 #include "job.h"
 
-/* A test, with the seed of all that it draws. */
-void compared_test(const char *name, uint64_t seed, void (*body)(uint64_t seed));
+/* A test, with its number, which makes the seed of all that it draws. It ends
+ * where the limits are reached. */
+void compared_test(const char *name, uint64_t number, void (*body)(uint64_t seed));
 
 /* Gives the job to both. A difference fails the test; the first of all is told,
  * with the shortest text that still shows one. */

@@ -1,6 +1,6 @@
-/* `compare COMMAND..` compares the proved replay of a text, by the driver that this
- * command runs, with the second program. `write FOLDER` writes some of the texts
- * to files. */
+/* `compare LIMITS COMMAND..` compares the proved replay of a text, by the driver
+ * that this command runs, with the second program, as far as the limits say.
+ * `write FOLDER` writes some of the texts to files. */
 #include <stdio.h>
 #include <stdlib.h>
 #include <string.h>
@@ -9,6 +9,7 @@
 #include "compare.h"
 #include "driver.h"
 #include "files.h"
+#include "limits.h"
 #include "met.h"
 #include "suites.h"
 
@@ -48,7 +49,8 @@ static bool compare_all(char **command)
     test_drawn();
     test_sizes();
     test_rooms();
-    test("every answer and every refusal is met often", enough_is_met);
+    if (!limits_reached())
+        test("every answer and every refusal is met often", enough_is_met);
     test("the driver ends with its input", driver_ends);
     tell_compared();
     return !any_failed();
@@ -56,10 +58,11 @@ static bool compare_all(char **command)
 
 int main(int argc, char **argv)
 {
-    if (argc >= 3 && strcmp(argv[1], "compare") == 0)
-        return compare_all(argv + 2) ? EXIT_SUCCESS : EXIT_FAILURE;
+    if (argc > 2 + LIMITS && strcmp(argv[1], "compare") == 0 && limits_read(argv + 2))
+        return compare_all(argv + 2 + LIMITS) ? EXIT_SUCCESS : EXIT_FAILURE;
     if (argc == 3 && strcmp(argv[1], "write") == 0)
         return write_files(argv[2]) ? EXIT_SUCCESS : EXIT_FAILURE;
-    fprintf(stderr, "usage: %s compare COMMAND [ARGUMENT..] | write FOLDER\n", argv[0]);
+    fprintf(stderr, "usage: %s compare " LIMITS_USAGE " COMMAND [ARGUMENT..] | write FOLDER\n",
+            argv[0]);
     return 2;
 }

@@ -1,0 +1,28 @@
+# shellcheck shell=sh disable=SC2154
+# The static library of the functions for C, and a compiler for what links it. Sourced by the scripts of tests that do, which have set `top`
+# and `build`. The library is x86-64 code: on another machine what links it is compiled for that, and run by tests/built.
+library=$top/target/staticlib/libexports.a
+
+# Sets `compiler`.
+find_compiler() {
+    compiler=gcc
+    [ "$(uname -m)" != x86_64 ] || return 0
+    compiler=x86_64-linux-gnu-gcc
+    command -v "$compiler" >/dev/null && return
+    [ "$(id -u)" -eq 0 ] || return
+    { apt-get update && DEBIAN_FRONTEND=noninteractive apt-get install -y gcc-x86-64-linux-gnu; } >"$build/apt.log" 2>&1
+    command -v "$compiler" >/dev/null
+}
+
+# Whether nothing that it is built from has changed since. To build it takes a minute even then.
+library_is_new() {
+    [ -f "$library" ] && [ -z "$(cd "$top" && find crates crates.txt toolchain.txt -newer "$library")" ]
+}
+
+# An old library is never linked.
+build_library() {
+    rm -f "$library"
+    (cd "$top" && rt staticlib exports >"$build/library.log" 2>&1) && return
+    tail -n 20 "$build/library.log"
+    return 1
+}
