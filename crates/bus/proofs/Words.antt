@@ -1,6 +1,6 @@
 -- A step that is not refused uses a word below 256, or none, so that the word's low eight bits are enough.
 use mathlib.Core.Path.{_≡_, refl}
-use mathlib.Core.Bool.{Bool, true, false}
+use mathlib.Core.Bool.{Bool, true, false, false≢true}
 use mathlib.Core.List.{List}
 use Prim.Native.Nat.{ℕ, _%_, _≤_}
 use native.Mathlib.Omega.{arith}
@@ -16,13 +16,10 @@ use Rattle.machine.specs.Refusals.{accepted, badMemory}
 use Rattle.machine.specs.SoundTest.{lengthsOk, soundOf}
 use Rattle.machine.specs.Step.{stepRefusal, takeStep}
 
-no : false ≡ true → ⊥
-no z = let o : _≡_ {A = ℕ} 0 1 = cc in omega arith
-
 used : (a b c e : Bool) → _≡_ {A = ℕ} (pick a 6 (pick b (pick c (pick e 0 8) 0) 7)) 0 → c ≡ true → e ≡ true
 used true b c e h t = absurd (omega (arith, h))
 used false false c e h t = absurd (omega (arith, h))
-used false true false e h t = absurd (no t)
+used false true false e h t = absurd (false≢true t)
 used false true true false h t = absurd (omega (arith, h))
 used false true true true h t = refl
 
@@ -72,8 +69,8 @@ sound-fit d s h = by (lengthsOk s) (eqb (dimsRefusal d) accepted) refl _ h
   where
     by : (a b : Bool) → eqb (dimsRefusal d) accepted ≡ b → (c : Bool) → both a (both b c) ≡ true → Fit d
     by true true e c z = dims-fit d (eqb-true (dimsRefusal d) accepted e)
-    by true false e c z = absurd (no z)
-    by false b e c z = absurd (no z)
+    by true false e c z = absurd (false≢true z)
+    by false b e c z = absurd (false≢true z)
 
 -- what a making that is not refused says
 pub make-fit : (d : Dims) (memory : List ℕ) → makeRefusal d memory ≡ accepted → (length memory ≤ 256) × (d .processors ≤ 8)

@@ -5,13 +5,11 @@ mod settling;
 
 use entry::answer::Answer;
 use entry::answer::Answered;
-use entry::answer::Counts;
 use machine::Dims;
 use machine::Machine;
 use machine::Made;
 use machine::Stepped;
 ghost use mathlib.Core.Path.{_≡_};
-ghost use Rattle.entry.specs.Answer.{refusedBy};
 ghost use Rattle.machine.specs.State.{cachesOf};
 ghost use Rattle.machine.specs.Making.{dims, makeOf};
 ghost use Rattle.machine.specs.SoundTest.{soundOf};
@@ -72,29 +70,12 @@ pub fn settled(m: Machine, word: u32) -> Answer
     Answer::Value(v)
 }
 
-fn refused(number: u8) -> Answered
-    ensures { λ r. ⌜ r ≡ refusedBy number ⌝ }
-{
-    let c = Counts {
-        read: 0,
-        rfo: 0,
-        write: 0,
-        t_read: 0,
-        t_rfo: 0,
-        busy: 0,
-    };
-    Answered {
-        answer: Answer::Refused(number),
-        counts: c,
-    }
-}
-
 // A step that is not refused uses a word below 256, or none.
 pub fn step(m: Machine, op: u8, core: u8, word: u32, value: u32) -> Stepped
     ensures { λ r. ⌜ r ≡ stepOf m op core word value ⌝ }
 {
     if !sound(m) {
-        let told = refused(9);
+        let told = Answered::refused(9);
         return Stepped {
             told: told,
             machine: m,
@@ -104,7 +85,7 @@ pub fn step(m: Machine, op: u8, core: u8, word: u32, value: u32) -> Stepped
     let p = core as usize;
     let k = steps::step_refusal(d, op, p, word);
     if k != 0 {
-        let told = refused(k);
+        let told = Answered::refused(k);
         return Stepped {
             told: told,
             machine: m,

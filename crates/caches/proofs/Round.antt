@@ -1,7 +1,7 @@
 -- Where a search ends of which it is known that no place before i has what is looked for; and that a search whose places go round after 64
 -- need not go further. Assumes nothing.
 use mathlib.Core.Path.{_≡_, refl, sym, _∙_}
-use mathlib.Core.Bool.{Bool, true, false}
+use mathlib.Core.Bool.{Bool, true, false, false≢true}
 use Prim.Native.Nat.{ℕ, _+_, _%_, _≤_, _<_}
 use native.Mathlib.Omega.{arith}
 use native.Mathlib.Decide.{ℕ-discrete, decLt}
@@ -9,9 +9,6 @@ use borrow.Author.Tests.{ltb-true}
 use lib.Dec.{ltb}
 use Rattle.laws.specs.Choice.{pick}
 use Rattle.laws.specs.Search.{firstFrom, first-has, first-not, none-of}
-
-never : false ≡ true → ⊥
-never z = let o : _≡_ {A = ℕ} 0 1 = cc in omega arith
 
 module _ (p : ℕ → Bool) where
   abbrev pub none : ℕ → ℕ → Type 0
@@ -38,8 +35,8 @@ module _ (p : ℕ → Bool) where
   first-at i n h has no-other = by (decLt (firstFrom p 0 n) i) (decLt i (firstFrom p 0 n))
     where
       by : Dec (firstFrom p 0 n < i) → Dec (i < firstFrom p 0 n) → firstFrom p 0 n ≡ i
-      by (yes l) z = absurd (never (sym (no-other (firstFrom p 0 n) (omega arith) l) ∙ first-has p 0 n (omega arith)))
-      by (no l) (yes k) = absurd (never (sym (first-not p 0 n i (omega arith) k) ∙ has))
+      by (yes l) z = absurd (false≢true (sym (no-other (firstFrom p 0 n) (omega arith) l) ∙ first-has p 0 n (omega arith)))
+      by (no l) (yes k) = absurd (false≢true (sym (first-not p 0 n i (omega arith) k) ∙ has))
       by (no l) (no k) = omega arith
 
   module _ (n m : ℕ) (reached : m ≡ pick (ltb 64 n) 64 n) where

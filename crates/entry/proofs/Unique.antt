@@ -53,6 +53,9 @@ use Rattle.entry.proofs.answer.Answer.value.Reads as value-reads
 use Rattle.entry.proofs.answer.Answer.refusal as refusal
 use Rattle.entry.proofs.answer.Answer.refusal.Kinds as refusal-kinds
 use Rattle.entry.proofs.answer.Answer.refusal.Reads as refusal-reads
+use Rattle.entry.proofs.answer.Answered.refused as refused
+use Rattle.entry.proofs.answer.Answered.refused.Kinds as refused-kinds
+use Rattle.entry.proofs.answer.Answered.refused.Reads as refused-reads
 use Rattle.entry.proofs.answer.Counts.cycles as cycles
 use Rattle.entry.proofs.answer.Counts.cycles.Kinds as cycles-kinds
 use Rattle.entry.proofs.answer.Counts.cycles.Reads as cycles-reads
@@ -136,6 +139,11 @@ pub refusal-unique : (κs : Lfts 0) (a : ArgsD refusal.signature κs) (r r' : Re
     (s s' : AtExit (endedOf 0 refusal-kinds.ps refusal-kinds.r) κs) → refusal-reads.Post κs a r s → refusal-reads.Post κs a r' s' →
     r ≡ r'
 refusal-unique κs a r r' s s' p q = p ∙ sym q
+
+pub refused-unique : (κs : Lfts 0) (a : ArgsD refused.signature κs) (r r' : ResD refused.signature κs)
+    (s s' : AtExit (endedOf 0 refused-kinds.ps refused-kinds.r) κs) → refused-reads.Post κs a r s → refused-reads.Post κs a r' s' →
+    r ≡ r'
+refused-unique κs a r r' s s' p q = p ∙ sym q
 
 pub cycles-unique : (κs : Lfts 0) (a : ArgsD cycles.signature κs) (r r' : ResD cycles.signature κs)
     (s s' : AtExit (endedOf 0 cycles-kinds.ps cycles-kinds.r) κs) → cycles-reads.Post κs a r s → cycles-reads.Post κs a r' s' →

@@ -1,7 +1,7 @@
 // What a step tells: an answer and six cycle counts.
 
 ghost use mathlib.Core.Path.{_≡_};
-ghost use Rattle.entry.specs.Answer.{answerNumber, answerValue, refusalNumber, cyclesOf};
+ghost use Rattle.entry.specs.Answer.{answerNumber, answerValue, refusalNumber, cyclesOf, refusedBy};
 ghost use Prim.Native.Nat.{_+_};
 
 pub enum Answer {
@@ -74,6 +74,26 @@ impl Answer {
             Answer::False => 0,
             Answer::Aborted => 0,
             Answer::Refused(n) => n,
+        }
+    }
+}
+
+impl Answered {
+    // A refusal gives its number, and zero counts.
+    pub fn refused(number: u8) -> Answered
+        ensures { λ r. ⌜ r ≡ refusedBy number ⌝ }
+    {
+        let none = Counts {
+            read: 0,
+            rfo: 0,
+            write: 0,
+            t_read: 0,
+            t_rfo: 0,
+            busy: 0,
+        };
+        Answered {
+            answer: Answer::Refused(number),
+            counts: none,
         }
     }
 }

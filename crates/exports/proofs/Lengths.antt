@@ -1,6 +1,6 @@
 -- What the test of the lengths says, either way.
 use mathlib.Core.Path.{_≡_, refl}
-use mathlib.Core.Bool.{Bool, true, false}
+use mathlib.Core.Bool.{Bool, true, false, false≢true}
 use Prim.Native.Nat.{ℕ}
 use native.Mathlib.Omega.{arith}
 use lib.Dec.{eqb}
@@ -16,9 +16,6 @@ use Rattle.machine.specs.SoundTest.{lengthsOk, soundOf}
 use Rattle.machine.specs.Step.{settledOf}
 use Rattle.machine.specs.Run.{Steps, Columns, left, runOf}
 
-no : false ≡ true → ⊥
-no z = let o : _≡_ {A = ℕ} 0 1 = cc in omega arith
-
 pub long : (s : Caches) → lengthsOk s ≡ true → Lengths s
 long s h =
     by (eqb (length (s .memory)) 256) (eqb (length (s .lines)) 512) (eqb (length (s .entries)) 512) (eqb (length (s .flags)) 16)
@@ -28,10 +25,10 @@ long s h =
         eqb (length (s .flags)) 16 ≡ e → both a (both b (both c e)) ≡ true → Lengths s
     by true true true true m l n f z =
         record { memory = eqb-true _ _ m; lines = eqb-true _ _ l; entries = eqb-true _ _ n; flags = eqb-true _ _ f }
-    by true true true false m l n f z = absurd (no z)
-    by true true false e m l n f z = absurd (no z)
-    by true false c e m l n f z = absurd (no z)
-    by false b c e m l n f z = absurd (no z)
+    by true true true false m l n f z = absurd (false≢true z)
+    by true true false e m l n f z = absurd (false≢true z)
+    by true false c e m l n f z = absurd (false≢true z)
+    by false b c e m l n f z = absurd (false≢true z)
 
 module _ (d : Dims) (s : Caches) (h : lengthsOk s ≡ false) where
   unsound : soundOf d s ≡ false

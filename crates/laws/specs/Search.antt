@@ -1,6 +1,6 @@
 -- A search: the first of the n places from i on at which p is true, else i + n, the place past the last. Assumes nothing.
 use mathlib.Core.Path.{_≡_, refl, sym, _∙_}
-use mathlib.Core.Bool.{Bool, true, false}
+use mathlib.Core.Bool.{Bool, true, false, true≢false}
 use Prim.Native.Nat.{ℕ, zero, suc, _+_, _-_, _≤_, _<_}
 use native.Mathlib.Omega.{arith}
 use native.Mathlib.Numerals.{add-one}
@@ -81,7 +81,5 @@ module _ (p : ℕ → Bool) where
     where
       by : Dec (firstFrom p i n < i + n) → firstFrom p i n ≡ i + n
       by (yes l) =
-          let t : true ≡ false = sym (first-has p i n l) ∙ h (firstFrom p i n) (first-range p i n .0) l in
-          let z : _≡_ {A = ℕ} 0 1 = cc in
-          absurd (omega arith)
+          absurd (true≢false (sym (first-has p i n l) ∙ h (firstFrom p i n) (first-range p i n .0) l))
       by (no l) = omega (arith, first-range p i n .1)

@@ -1,6 +1,6 @@
 -- One line done by the code is the line of the definition, written where it surely fits; and what that is in the loop that fills a buffer.
 use mathlib.Core.Path.{_≡_, refl, sym, _∙_, ap}
-use mathlib.Core.Bool.{Bool, true, false, not}
+use mathlib.Core.Bool.{Bool, true, false, not, true≢false}
 use mathlib.Core.List.{List}
 use Prim.Native.Nat.{ℕ, _+_, _≤_, _<_}
 use native.Mathlib.Omega.{arith}
@@ -90,7 +90,7 @@ module _ (s : List ℕ) (d : Dims) where
       by : (b : Bool) → goesOn s d (c .state) ≡ b → not (both b (leb (c .used + mostLine) (length (c .buffer)))) ≡ false →
           linesLeft s d (go c .state) < linesLeft s d (c .state)
       by true h z = falls s d (c .state) h
-      by false h z = let o : _≡_ {A = ℕ} 0 1 = cc in absurd (omega arith)
+      by false h z = absurd (true≢false z)
 
   pub fill-starts : (g : Going) (o : List ℕ) → fillFrom (carried g 0 o) ≡ fillOf s d g o
   unfolding fillOf pieceOf

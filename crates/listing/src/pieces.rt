@@ -16,7 +16,7 @@ use crate::places::with_phase;
 use crate::records::answer_of;
 use crate::records::look_at;
 use crate::records::place_after;
-use crate::records::refused;
+use entry::answer::Answered;
 use machine::Copies;
 use machine::Dims;
 use machine::Flags;
@@ -76,7 +76,7 @@ fn do_other(s: &[u8], out: &mut [u8], used: usize, x: Place) -> Filled
         };
     }
     if x.phase == REFUSAL {
-        let told = refused(x.refusal);
+        let told = Answered::refused(x.refusal);
         let k = write_answer(out, used, 0, told);
         let next = with_phase(x, END);
         return Filled {

@@ -7,7 +7,6 @@ use crate::places::past;
 use crate::places::phase_at;
 use entry::answer::Answer;
 use entry::answer::Answered;
-use entry::answer::Counts;
 use entry::numbers::INTERRUPT;
 use machine::Copies;
 use machine::Dims;
@@ -18,7 +17,6 @@ use text::records::Record;
 use text::records::read_record;
 use text::records::record_end;
 ghost use mathlib.Core.Path.{_≡_};
-ghost use Rattle.entry.specs.Answer.{refusedBy};
 ghost use Rattle.machine.specs.State.{caches, outcome};
 ghost use Rattle.listing.specs.Records.{rises, fieldsRefusal, looked, lookAt, answerOf, isSuccess, phaseAfter, placeAfter, noFields};
 
@@ -98,23 +96,6 @@ pub(crate) fn look_at(s: &[u8], d: Dims, x: Place) -> Looked
     }
 }
 
-pub(crate) fn refused(number: u8) -> Answered
-    ensures { λ r. ⌜ r ≡ refusedBy number ⌝ }
-{
-    let c = Counts {
-        read: 0,
-        rfo: 0,
-        write: 0,
-        t_read: 0,
-        t_rfo: 0,
-        busy: 0,
-    };
-    Answered {
-        answer: Answer::Refused(number),
-        counts: c,
-    }
-}
-
 // A record that is not refused uses a word below 256, or none.
 pub(crate) fn answer_of(
     memory: &mut Memory,
@@ -127,7 +108,7 @@ pub(crate) fn answer_of(
     ensures { λ r. ⌜ outcome r (caches (now (memory .exit)) (now (lines .exit)) (now (entries .exit)) (now (flags .exit))) ≡ answerOf d l (caches (now (memory .entry)) (now (lines .entry)) (now (entries .entry)) (now (flags .entry))) ⌝ }
 {
     if l.refusal != 0 {
-        return refused(l.refusal);
+        return Answered::refused(l.refusal);
     }
     let f = l.fields;
     let p = f.core as usize;

@@ -1,7 +1,7 @@
 -- "So no slot for a tentative entry exists exactly when every entry is tentative."
 use mathlib.Core.Path.{_≡_, refl, _∙_, sym}
 use mathlib.Core.Logic.{_≢_}
-use mathlib.Core.Bool.{Bool, true, false, not}
+use mathlib.Core.Bool.{Bool, true, false, not, true≢false}
 use mathlib.Core.List.{List}
 use Prim.Native.Nat.{ℕ, _+_, _<_, _≤_}
 use native.Mathlib.Omega.{arith}
@@ -28,10 +28,7 @@ module _ (es : List ℕ) (p n : ℕ) where
   unfolding lowest
   found-none tag i e h q =
       let t = none-at (isFree es p tag n) 0 n (omega (arith, e)) i (omega arith) (omega arith) in
-      clash (rw (ne-eqb i n (λ z. omega arith), eq-eqb _ _ q) at t)
-    where
-      clash : true ≡ false → ⊥
-      clash z = let o : _≡_ {A = ℕ} 0 1 = cc in omega arith
+      true≢false (rw (ne-eqb i n (λ z. omega arith), eq-eqb _ _ q) at t)
 
   finds-none : (tag : ℕ) → ((i : ℕ) → i < n → copyAt es p i .tag ≢ tag) → lowest es p n tag n ≡ n
   unfolding lowest

@@ -1,7 +1,7 @@
 -- A fresh machine is fit, its caches are empty, and it is sound.
 use mathlib.Core.Path.{_≡_, refl, sym, _∙_, ap, subst⁻¹}
 use mathlib.Core.Logic.{inl}
-use mathlib.Core.Bool.{Bool, true, false}
+use mathlib.Core.Bool.{Bool, true, false, true≢false}
 use mathlib.Core.List.{List, [], _∷_, _++_}
 use Prim.Native.Nat.{ℕ, _+_, _-_, _≤_, _<_}
 use native.Mathlib.Decide.{decLt}
@@ -178,5 +178,5 @@ made-of d memory e = by (eqb (dimsRefusal d) accepted) (eqb (length memory) (d .
     by false b ha hb e = absurd (no (eqb (dimsRefusal d) accepted) ha e)
       where
         no : (c : Bool) → c ≡ false → pick c (made accepted m) (made (dimsRefusal d) smallest) .refusal ≡ accepted → ⊥
-        no true h e = let z : _≡_ {A = ℕ} 0 1 = cc in omega arith
+        no true h e = true≢false h
         no false h e = eqb-false (dimsRefusal d) accepted ha e

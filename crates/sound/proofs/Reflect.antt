@@ -1,7 +1,7 @@
 -- A test and what it says, both ways, put together as the test is. Assumes nothing.
 use mathlib.Core.Path.{_≡_, refl, ap}
 use mathlib.Core.Logic.{_≢_}
-use mathlib.Core.Bool.{Bool, true, false, not}
+use mathlib.Core.Bool.{Bool, true, false, not, false≢true}
 use Prim.Native.Nat.{ℕ, _-_, _<_, _≤_}
 use native.Mathlib.Omega.{arith}
 use native.Mathlib.Decide.{ℕ-discrete, decLt}
@@ -37,7 +37,7 @@ both-then {a} {b} {P} {Q} s t = record { says = says a (s .says); shows = λ h. 
   where
     says : (a : Bool) → (a ≡ true → P) → both a b ≡ true → P × Q
     says true p e = (p refl, t (p refl) .says e)
-    says false p e = absurd (let z : _≡_ {A = ℕ} 0 1 = cc in omega arith)
+    says false p e = absurd (false≢true e)
 
 pub both-iff : {a b : Bool} {P Q : Type 0} → Iff a P → Iff b Q → Iff (both a b) (P × Q)
 both-iff s t = both-then s (λ p. t)

@@ -1,7 +1,7 @@
 -- What the test says of a state, place by place, both ways. Assumes nothing.
 use mathlib.Core.Path.{_≡_, refl}
 use mathlib.Core.Logic.{_≢_}
-use mathlib.Core.Bool.{Bool, true, false}
+use mathlib.Core.Bool.{Bool, true, false, false≢true}
 use mathlib.Core.List.{List}
 use Prim.Native.Nat.{ℕ, _+_, _/_, _%_, _<_, _≤_}
 use native.Mathlib.Omega.{arith}
@@ -158,7 +158,7 @@ few-words d e =
 
     second : (a b : Bool) → both a b ≡ true → b ≡ true
     second true b e = e
-    second false b e = absurd (let z : _≡_ {A = ℕ} 0 1 = cc in omega arith)
+    second false b e = absurd (false≢true e)
 
 pub tested : (d : Dims) (s : Caches) → Iff (soundOf d s) (Tested d s)
 unfolding soundOf flagsOk memoryOk copiesOk linesOk entriesOk

@@ -34,7 +34,7 @@ fn told(answer: Answer) -> Answered
 pub(crate) fn no_such_step() -> Answered
     ensures { λ r. ⌜ r ≡ refusedBy noSuchStep ⌝ }
 {
-    told(Answer::Refused(6))
+    Answered::refused(6)
 }
 
 pub(crate) fn commit(entries: &mut Copies, flags: &mut Flags, d: Dims, p: usize) -> Answered
