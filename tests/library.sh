@@ -1,6 +1,6 @@
 # shellcheck shell=sh disable=SC2154
-# The static library of the functions for C, and a compiler for what links it. Sourced by the scripts of tests that do, which have set `top`
-# and `build`. The library is x86-64 code: on another machine what links it is compiled for that, and run by tests/built.
+# The static library of the functions for C, and a compiler for what links it. Sourced after tests/suite.sh by the scripts of tests that do.
+# The library is x86-64 code: on another machine what links it is compiled for that, and run by tests/built.
 library=$top/target/staticlib/libexports.a
 
 # Sets `compiler`.
@@ -22,7 +22,5 @@ library_is_new() {
 # An old library is never linked.
 build_library() {
     rm -f "$library"
-    (cd "$top" && rt staticlib exports >"$build/library.log" 2>&1) && return
-    tail -n 20 "$build/library.log"
-    return 1
+    quiet_rt staticlib exports
 }

@@ -71,7 +71,8 @@ static bool all_zero(const uint64_t *copies, size_t length)
     return true;
 }
 
-/* The state of a fresh machine, and every place past it as it was. */
+/* include/stirnfeld.h says what a fresh state holds in places that the dimensions
+ * do not reach. */
 static void a_fresh_state(void)
 {
     make_bench();

@@ -3,6 +3,15 @@
 
 #include <stdio.h>
 
+static void with_size(size_t *place, size_t wrong, void (*body)(const char *what),
+                      const char *what)
+{
+    size_t right = *place;
+    *place = wrong;
+    body(what);
+    *place = right;
+}
+
 static void for_each_length(void (*body)(const char *what))
 {
     static const char *const names[ARRAYS] = { "memory", "regular", "transactional", "flags" };
@@ -12,28 +21,17 @@ static void for_each_length(void (*body)(const char *what))
         for (int j = 0; j < 3; j++) {
             char what[64];
             snprintf(what, sizeof what, "%s of length %zu", names[k], wrong[j]);
-            asked.arrays[k] = wrong[j];
-            body(what);
+            with_size(&asked.arrays[k], wrong[j], body, what);
         }
-        asked.arrays[k] = right;
     }
 }
 
 static void for_each_dimension(void (*body)(const char *what))
 {
-    struct asked right = asked;
-    asked.processors = 9;
-    body("9 processors");
-    asked = right;
-    asked.words = 257;
-    body("257 words");
-    asked = right;
-    asked.lines = 3;
-    body("3 lines");
-    asked = right;
-    asked.entries = 0;
-    body("no entries");
-    asked = right;
+    with_size(&asked.processors, 9, body, "9 processors");
+    with_size(&asked.words, 257, body, "257 words");
+    with_size(&asked.lines, 3, body, "3 lines");
+    with_size(&asked.entries, 0, body, "no entries");
 }
 
 static uint64_t copy(uint64_t state, uint64_t tag, uint64_t word, uint64_t data)

@@ -4,6 +4,7 @@
 
 #include "check.h"
 #include "ours.h"
+#include "reply.h"
 #include "stirnfeld.h"
 
 enum { NOISE = 0xA5 };
@@ -81,7 +82,7 @@ static void take_answer(const struct job *job, struct reply *reply)
     reply->taken--; /* a step's reply has none */
 }
 
-/* A run of one. */
+/* include/stirnfeld.h has no function for a single step: it is a run of one. */
 static void step(const struct job *job, struct reply *reply)
 {
     static const uint64_t one[COLUMNS] = {1, 1, 1, 1, 1, 1, 1, 1, 1, 1, 1, 1};
@@ -96,22 +97,12 @@ static void step(const struct job *job, struct reply *reply)
         reply->answer = ANSWER_REFUSED;
 }
 
-static void answer(const struct job *job, struct reply *reply)
-{
-    switch ((enum job_kind)job->kind) {
-    case JOB_MAKE: make(job, reply); break;
-    case JOB_SOUND: sound(job, reply); break;
-    case JOB_SETTLED: settled(job, reply); break;
-    case JOB_STEP: step(job, reply); break;
-    case JOB_RUN: run(job, reply); break;
-    }
-}
-
 void ours_answer(const struct job *job, struct reply *reply)
 {
+    static const struct job_functions functions = {
+        .make = make, .sound = sound, .settled = settled, .step = step, .run = run};
     struct job lent = *job;
-    reply_as_it_came(reply, job);
-    answer(&lent, reply);
+    reply_by(&functions, &lent, reply);
     expect(memcmp(&lent, job, sizeof lent) == 0, "what is only read was written to");
 }
 

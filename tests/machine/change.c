@@ -44,8 +44,8 @@ static bool agrees_with_memory(uint64_t copy)
 
 enum caches { IN_LINES = 1, IN_ENTRIES = 2, IN_BOTH = 3 };
 
-/* Goes through the places of processors from..to-1 in turn; each that fits has
- * the same chance to be the one picked. */
+/* Of the places of processors from..to-1 that fit, each has the same chance to be
+ * picked: the n-th that is seen takes the place of the one before in one case of n. */
 static struct spot pick_between(struct job *job, struct dice *dice, enum caches caches,
                                 predicate *fits, uint32_t from, uint32_t to)
 {
@@ -106,7 +106,7 @@ static uint32_t another_processor(const struct job *job, struct dice *dice, uint
     return (p + roll_from(dice, 1, processors - 1)) % processors;
 }
 
-/* ---- clauses broken */
+/* ---- each breaks a clause of document 01's 'Sound states' */
 
 static bool wrong_dimension(struct job *job, struct dice *dice)
 {
@@ -381,7 +381,7 @@ static bool entry_outside(struct job *job, struct dice *dice)
     return copy_outside(job, dice, false);
 }
 
-/* ---- what breaks nothing */
+/* ---- these break none */
 
 static bool other_dirty_data(struct job *job, struct dice *dice)
 {

@@ -1,5 +1,5 @@
-/* Changes to a state that was reached: each of 'Sound states' broken, and what
- * breaks none of it. */
+/* Changes to a state that was reached: each clause of document 01's 'Sound states'
+ * broken, and what breaks none. */
 #ifndef CHANGE_H
 #define CHANGE_H
 

@@ -1,7 +1,5 @@
 #include "draw.h"
 
-#include <string.h>
-
 #include "pack.h"
 
 static void make_fresh(struct machine *machine, struct dice *dice,

@@ -70,12 +70,6 @@ struct reply {
     struct written_columns written;
 };
 
-/* The reply of a function that hands nothing back. */
-void reply_as_it_came(struct reply *reply, const struct job *job);
-
-/* A refused making hands back the smallest machine. */
-void reply_smallest(struct reply *reply);
-
 static_assert(sizeof(struct job) == 11904, "a job has no padding");
 static_assert(sizeof(struct reply) == 11208, "a reply has no padding");
 

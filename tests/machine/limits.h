@@ -18,7 +18,7 @@ bool limits_read(char *const words[LIMITS]);
 /* The seed of the test with this number. */
 uint64_t test_seed(uint64_t number);
 
-/* To be told of a difference. */
+/* Called at each difference. */
 void limits_differ(void);
 
 /* Whether no more is to be compared. */

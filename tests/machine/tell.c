@@ -14,7 +14,7 @@ static void tell_numbers(const char *name, const uint64_t *numbers, size_t lengt
     printf("\n");
 }
 
-/* Bits that are no part of a copy are told behind it. */
+/* Bits past a copy's, which machine2 cannot take, are told behind it. */
 static void tell_rest(uint64_t copy)
 {
     if (copy >> COPY_BITS != 0)

@@ -4,15 +4,22 @@
 #include "pack.h"
 #include "suites.h"
 
+/* A run from the job's state, of steps of any mood. */
+static void compare_run(struct job *job, struct dice *dice, size_t length,
+                        struct reply *reply)
+{
+    struct mood mood;
+    draw_mood(&mood, dice, unpack_dimensions(job->dimensions));
+    draw_run(job, dice, &mood, length);
+    compare(job, reply);
+}
+
 static void run_from_fresh(struct dice *dice, struct dimensions dimensions)
 {
     struct job job = {0};
-    struct mood mood;
     struct reply reply;
     draw_fresh(&job, dice, dimensions);
-    draw_mood(&mood, dice, dimensions);
-    draw_run(&job, dice, &mood, PLACES);
-    compare(&job, &reply);
+    compare_run(&job, dice, PLACES, &reply);
 }
 
 static void runs_from_fresh(uint64_t seed)
@@ -37,11 +44,11 @@ static void runs_of_every_size(uint64_t seed)
         run_from_fresh(&dice, (struct dimensions){2, words, 8, 4});
 }
 
-/* Made by the machine itself, and every state is one that it handed back. */
+/* No run starts from a state of the second program: each is the one that the proved
+ * machine handed back last. */
 static void long_trace(struct dice *dice, struct dimensions dimensions, int runs)
 {
     struct job job = {0};
-    struct mood mood;
     struct reply reply;
     draw_fresh(&job, dice, dimensions);
     job.kind = JOB_MAKE;
@@ -49,9 +56,7 @@ static void long_trace(struct dice *dice, struct dimensions dimensions, int runs
     compare(&job, &reply);
     for (int i = 0; i < runs; i++) {
         job.state = reply.state;
-        draw_mood(&mood, dice, dimensions);
-        draw_run(&job, dice, &mood, PLACES);
-        compare(&job, &reply);
+        compare_run(&job, dice, PLACES, &reply);
     }
 }
 
@@ -69,13 +74,9 @@ static void runs_of_every_length(uint64_t seed)
     struct dice dice = {seed};
     for (int i = 0; i < 4 * (PLACES + 1); i++) {
         struct job job = {0};
-        struct mood mood;
         struct reply reply;
-        struct dimensions dimensions = draw_any_dimensions(&dice);
-        draw_reached(&job, &dice, dimensions);
-        draw_mood(&mood, &dice, dimensions);
-        draw_run(&job, &dice, &mood, i % (PLACES + 1));
-        compare(&job, &reply);
+        draw_reached(&job, &dice, draw_any_dimensions(&dice));
+        compare_run(&job, &dice, i % (PLACES + 1), &reply);
     }
 }
 
@@ -90,9 +91,9 @@ static void empty_runs(uint64_t seed)
         for (int column = 0; column < COLUMNS; column++)
             job.lengths[column] = 0;
         if (roll_one_in(&dice, 3))
-            job.state.flags[0] = 2; /* 9 */
+            job.state.flags[0] = 2; /* REFUSED_STATE */
         if (roll_one_in(&dice, 3))
-            job.lengths[roll_below(&dice, COLUMNS)] = 1; /* 10 */
+            job.lengths[roll_below(&dice, COLUMNS)] = 1; /* REFUSED_COLUMNS */
         compare(&job, &reply);
     }
 }

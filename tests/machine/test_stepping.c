@@ -1,7 +1,6 @@
 /* Single steps, and settled values. */
 #include "compare.h"
 #include "draw.h"
-#include "pack.h"
 #include "suites.h"
 
 static void steps_from_reached(uint64_t seed)

@@ -1,6 +1,7 @@
 #include "twin.h"
 
 #include "pack.h"
+#include "reply.h"
 #include "run.h"
 #include "sound.h"
 
@@ -117,12 +118,7 @@ static void run(const struct job *job, struct reply *reply)
 
 void twin_answer(const struct job *job, struct reply *reply)
 {
-    reply_as_it_came(reply, job);
-    switch ((enum job_kind)job->kind) {
-    case JOB_MAKE: make(job, reply); break;
-    case JOB_SOUND: sound(job, reply); break;
-    case JOB_SETTLED: settled(job, reply); break;
-    case JOB_STEP: step(job, reply); break;
-    case JOB_RUN: run(job, reply); break;
-    }
+    static const struct job_functions functions = {
+        .make = make, .sound = sound, .settled = settled, .step = step, .run = run};
+    reply_by(&functions, job, reply);
 }

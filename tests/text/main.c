@@ -34,7 +34,7 @@ static void enough_is_met(void)
     for (int answer = 0; answer < ANSWERS; answer++)
         expect(answers_met(answer) >= OF_AN_ANSWER, "answer %d only %zu times", answer,
                answers_met(answer));
-    expect(texts_compared() >= TEXTS, "only %zu texts", texts_compared());
+    expect(jobs_compared() >= TEXTS, "only %zu texts", jobs_compared());
 }
 
 static void driver_ends(void)
@@ -53,6 +53,7 @@ static bool compare_all(char **command)
         test("every answer and every refusal is met often", enough_is_met);
     test("the driver ends with its input", driver_ends);
     tell_compared();
+    tell_met();
     return !any_failed();
 }
 

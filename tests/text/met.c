@@ -1,5 +1,6 @@
 #include "met.h"
 
+#include <stdio.h>
 #include <stdlib.h>
 #include <string.h>
 
@@ -7,7 +8,6 @@
 
 static size_t answers[ANSWERS];
 static size_t refusals[REFUSED_LENGTH + 1];
-static size_t lines;
 
 /* `line` is a number, an answer's name, a value and a count. */
 static void meet_line(const char *line)
@@ -15,7 +15,6 @@ static void meet_line(const char *line)
     const char *name = strchr(line, ',') + 1;
     const char *value = strchr(name, ',') + 1;
     size_t length = (size_t)(value - 1 - name);
-    lines++;
     for (uint32_t kind = 0; kind < ANSWERS; kind++)
         if (strlen(answer_name(kind)) == length &&
             memcmp(answer_name(kind), name, length) == 0)
@@ -30,11 +29,15 @@ static const char *next_line(const char *line)
 }
 
 /* A listing ends with its END line, so no search runs past its bytes. */
-void meet(const struct listing *listing)
+size_t meet(const struct listing *listing)
 {
+    size_t lines = 0;
     for (const char *line = next_line(listing->bytes); line[0] != 'E';
-         line = next_line(line))
+         line = next_line(line)) {
         meet_line(line);
+        lines++;
+    }
+    return lines;
 }
 
 size_t answers_met(enum answer_kind answer)
@@ -47,7 +50,14 @@ size_t refusals_met(enum refusal refusal)
     return refusals[refusal];
 }
 
-size_t lines_met(void)
+void tell_met(void)
 {
-    return lines;
+    printf(" ");
+    for (int answer = 0; answer < ANSWER_REFUSED; answer++)
+        printf(" %s %zu", answer_name(answer), answers[answer]);
+    printf("\n ");
+    for (int refusal = NOT_REFUSED + 1; refusal <= REFUSED_LENGTH; refusal++)
+        if (refusals[refusal] > 0)
+            printf(" REFUSED %d %zu", refusal, refusals[refusal]);
+    printf("\n");
 }

@@ -4,12 +4,13 @@
 
 #include "text.h"
 
-void meet(const struct listing *listing);
+/* Counts a listing, and says how many lines it has between its header and its end. */
+size_t meet(const struct listing *listing);
 
 size_t answers_met(enum answer_kind answer);
 size_t refusals_met(enum refusal refusal);
 
-/* All the lines between a listing's header and its end. */
-size_t lines_met(void);
+/* Prints all that was met. */
+void tell_met(void);
 
 #endif

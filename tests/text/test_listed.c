@@ -13,7 +13,6 @@ static const struct dimensions usual = {4, 16, 4, 4};
 
 static const char good[] = "6,1,ST,3,7" CRLF "8,1,COMMIT,0,0" CRLF;
 
-/* Every header, with every end, alone and with records after it. */
 static void headers(uint64_t seed)
 {
     static struct job job;
@@ -94,8 +93,7 @@ static void record_lengths(uint64_t seed)
         }
 }
 
-/* The first text of a good log, of every length: it ends in the middle of a
- * header, a field, a CRLF. */
+/* So that a text ends in the middle of its header, of a field, of a CRLF. */
 static void every_beginning(uint64_t seed)
 {
     static struct job job;
@@ -112,7 +110,7 @@ static void every_beginning(uint64_t seed)
     }
 }
 
-/* Every byte, in place of one of a good record, and after it. */
+/* The last place is that of the CR behind the record. */
 static void every_byte(uint64_t seed)
 {
     static const char record[] = "5,1,LTX,3,9";

@@ -7,7 +7,7 @@
 
 static const struct dimensions usual = {4, 16, 4, 4};
 
-/* Below 72 bytes nothing is written; from there on a piece has a line or more. */
+/* Below LINE_ROOM nothing is written; from there on a piece has a line or more. */
 static void every_room(uint64_t seed)
 {
     static struct job job;
@@ -50,7 +50,6 @@ static void long_texts(uint64_t seed)
     }
 }
 
-/* A line of thousands of bytes, as the header and as a record. */
 static void long_lines(uint64_t seed)
 {
     static struct job job;

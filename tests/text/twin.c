@@ -29,7 +29,7 @@ static size_t line_length(const char *bytes, size_t length)
     return end == NULL ? length : (size_t)(end - bytes) + 1;
 }
 
-/* As many lines as surely fit. */
+/* docs/DECISIONS.md 29: a line is written only where the longest would fit. */
 static size_t piece_length(const char *bytes, size_t length, size_t room)
 {
     size_t used = 0;
