@@ -18,6 +18,9 @@ use Rattle.caches.proofs.find_entry.Reads as find-entry-reads
 use Rattle.caches.proofs.live_entry as live-entry
 use Rattle.caches.proofs.live_entry.Kinds as live-entry-kinds
 use Rattle.caches.proofs.live_entry.Reads as live-entry-reads
+use Rattle.caches.proofs.own_entry as own-entry
+use Rattle.caches.proofs.own_entry.Kinds as own-entry-kinds
+use Rattle.caches.proofs.own_entry.Reads as own-entry-reads
 use Rattle.caches.proofs.free_slot as free-slot
 use Rattle.caches.proofs.free_slot.Kinds as free-slot-kinds
 use Rattle.caches.proofs.free_slot.Reads as free-slot-reads
@@ -53,6 +56,11 @@ pub live-entry-unique : (κs : Lfts 1) (a : ArgsD live-entry.signature κs) (r r
     (s s' : AtExit (endedOf 1 live-entry-kinds.ps live-entry-kinds.r) κs) → live-entry-reads.Post κs a r s → live-entry-reads.Post κs a r' s' →
     r ≡ r'
 live-entry-unique κs a r r' s s' p q = p ∙ sym q
+
+pub own-entry-unique : (κs : Lfts 1) (a : ArgsD own-entry.signature κs) (r r' : ResD own-entry.signature κs)
+    (s s' : AtExit (endedOf 1 own-entry-kinds.ps own-entry-kinds.r) κs) → own-entry-reads.Post κs a r s → own-entry-reads.Post κs a r' s' →
+    r ≡ r'
+own-entry-unique κs a r r' s s' p q = p ∙ sym q
 
 pub free-slot-unique : (κs : Lfts 1) (a : ArgsD free-slot.signature κs) (r r' : ResD free-slot.signature κs)
     (s s' : AtExit (endedOf 1 free-slot-kinds.ps free-slot-kinds.r) κs) → free-slot-reads.Post κs a r s → free-slot-reads.Post κs a r' s' →

@@ -5,6 +5,7 @@ use entry::numbers::BACKUP;
 use entry::numbers::DIRTY;
 use entry::numbers::INVALID;
 use entry::numbers::NORMAL;
+use entry::numbers::TENTATIVE;
 use machine::Copies;
 use machine::Dims;
 use machine::Flags;
@@ -16,9 +17,16 @@ ghost use lib.Dec.{eqb, ltb};
 ghost use Rattle.laws.specs.Choice.{pick};
 ghost use Rattle.entry.specs.Packing.{noEntry};
 ghost use Rattle.machine.specs.State.{copyAt, withCopy};
-ghost use Rattle.machine.specs.Own.{home, holds, findEntry, lowest, freeSlot, liveEntry};
+ghost use Rattle.machine.specs.Own.{home, holds, hasEntry, findEntry, lowest, freeSlot, liveEntry};
 ghost use Rattle.machine.specs.Rollback.{rolledEntries, statusDown, committedEntries};
 ghost use Rattle.machine.specs.Bus.{writtenBack, writes};
+ghost use Rattle.caches.specs.Own.{ownEntry};
+
+// Whether it is a tentative entry; its place is the number of entries where there is none.
+pub struct Own {
+    pub tentative: bool,
+    pub at: usize,
+}
 
 // A machine of no lines is never made; the remainder by 0 is the word itself, as in the definition.
 pub fn home(d: Dims, word: u8) -> usize
@@ -53,7 +61,7 @@ fn reach(n: usize) -> usize
 fn skip_words(entries: &Copies, p: usize, i: usize, word: u8) -> usize
     requires { ⌜ i + 4 ≤ 64 ⌝ }
     ensures { λ r. ⌜ ((k : ℕ) → i ≤ k → k < r → eqb (copyAt (now (entries .entry)) p k .word) word ≡ false) ⌝ }
-    ensures { λ r. ⌜ r ≤ i + 4 ⌝ }
+    ensures { λ r. ⌜ (i ≤ r) × (r ≤ i + 4) ⌝ }
 {
     let j = p % 8 * 64 + i;
     if entry::packed::has_word(entries[j], word) {
@@ -74,21 +82,50 @@ fn skip_words(entries: &Copies, p: usize, i: usize, word: u8) -> usize
     i + 4
 }
 
-// Most entries are not of the word that is looked for. No place before the answer is.
-fn before_word(entries: &Copies, p: usize, n: usize, word: u8) -> usize
-    ensures { λ r. ⌜ ((k : ℕ) → k < r → eqb (copyAt (now (entries .entry)) p k .word) word ≡ false) ⌝ }
+// Most entries are not of the word that is looked for, but invalid ones are of word 0. No place from i to before the answer has the word.
+fn next_of_word(entries: &Copies, p: usize, m: usize, i: usize, word: u8) -> usize
+    requires { ⌜ (i ≤ m) × (m ≤ 64) ⌝ }
+    ensures { λ r. ⌜ ((k : ℕ) → i ≤ k → k < r → eqb (copyAt (now (entries .entry)) p k .word) word ≡ false) ⌝ }
+    ensures { λ r. ⌜ i ≤ r ⌝ }
 {
-    let m = reach(n);
-    let mut i: usize = 0;
-    let at = loop {
-        if i >= m {
-            break i;
+    if word == 0 {
+        return i;
+    }
+    let mut at: usize = i;
+    let next = loop {
+        if at + 4 > m {
+            break at;
         }
-        let k = skip_words(entries, p, i, word);
-        if k < i + 4 {
+        let k = skip_words(entries, p, at, word);
+        if k < at + 4 {
             break k;
         }
-        i += 4;
+        at += 4;
+    };
+    next
+}
+
+// No entry before place from has the tag and the word.
+fn find_from(entries: &Copies, p: usize, n: usize, from: usize, tag: u8, word: u8) -> usize
+    requires { ⌜ ((k : ℕ) → k < from → hasEntry (now entries) p tag word k ≡ false) ⌝ }
+    ensures { λ r. ⌜ r ≡ findEntry (now (entries .entry)) p n tag word ⌝ }
+{
+    let base = p % 8 * 64;
+    let m = reach(n);
+    let mut i: usize = from;
+    let at = loop {
+        if i >= m {
+            break n;
+        }
+        let k = next_of_word(entries, p, m, i, word);
+        if k >= m {
+            break n;
+        }
+        let j = base + k;
+        if entry::packed::is_entry(entries[j], tag, word) {
+            break k;
+        }
+        i = k + 1;
     };
     at
 }
@@ -96,20 +133,7 @@ fn before_word(entries: &Copies, p: usize, n: usize, word: u8) -> usize
 pub fn find_entry(entries: &Copies, p: usize, n: usize, tag: u8, word: u8) -> usize
     ensures { λ r. ⌜ r ≡ findEntry (now (entries .entry)) p n tag word ⌝ }
 {
-    let base = p % 8 * 64;
-    let m = reach(n);
-    let mut i: usize = before_word(entries, p, n, word);
-    let at = loop {
-        if i >= m {
-            break n;
-        }
-        let j = base + i;
-        if entry::packed::is_entry(entries[j], tag, word) {
-            break i;
-        }
-        i += 1;
-    };
-    at
+    find_from(entries, p, n, 0, tag, word)
 }
 
 pub fn live_entry(entries: &Copies, p: usize, n: usize, word: u8) -> usize
@@ -117,18 +141,55 @@ pub fn live_entry(entries: &Copies, p: usize, n: usize, word: u8) -> usize
 {
     let base = p % 8 * 64;
     let m = reach(n);
-    let mut i: usize = before_word(entries, p, n, word);
+    let mut i: usize = 0;
     let at = loop {
         if i >= m {
             break n;
         }
-        let j = base + i;
-        if entry::packed::is_live(entries[j], word) {
-            break i;
+        let k = next_of_word(entries, p, m, i, word);
+        if k >= m {
+            break n;
         }
-        i += 1;
+        let j = base + k;
+        if entry::packed::is_live(entries[j], word) {
+            break k;
+        }
+        i = k + 1;
     };
     at
+}
+
+// A processor's own entry of a word: the tentative one, else the NORMAL one. Behind a NORMAL entry there is no tentative one in a sound
+// state.
+pub fn own_entry(entries: &Copies, p: usize, n: usize, word: u8) -> Own
+    ensures { λ r. ⌜ r ≡ ownEntry (now (entries .entry)) p n word ⌝ }
+{
+    let i = live_entry(entries, p, n, word);
+    if i >= n {
+        return Own {
+            tentative: false,
+            at: n,
+        };
+    }
+    let j = p % 8 * 64 + i % 64;
+    let tag = entry::packed::tag_of(entries[j]);
+    if tag == TENTATIVE {
+        return Own {
+            tentative: true,
+            at: i,
+        };
+    }
+    let k = find_from(entries, p, n, i, TENTATIVE, word);
+    if k < n {
+        return Own {
+            tentative: true,
+            at: k,
+        };
+    }
+    Own {
+        tentative: false,
+        at: i,
+    }
 }
 
 fn lowest(entries: &Copies, p: usize, n: usize, tag: u8, taken: usize) -> usize
@@ -171,9 +232,7 @@ pub fn rollback(entries: &mut Copies, flags: &mut Flags, p: usize, n: usize)
     let mut i: usize = 0;
     while i < n {
         let j = base + i % 64;
-        let e = Entry::unpack(entries[j]);
-        let rolled = e.rolled_back();
-        entries[j] = rolled.pack();
+        entries[j] = entry::packed::rolled_back(entries[j]);
         i += 1;
     }
     let k = 8 + p % 8;
@@ -187,9 +246,7 @@ pub fn commit_entries(entries: &mut Copies, p: usize, n: usize)
     let mut i: usize = 0;
     while i < n {
         let j = base + i % 64;
-        let e = Entry::unpack(entries[j]);
-        let kept = e.committed();
-        entries[j] = kept.pack();
+        entries[j] = entry::packed::committed(entries[j]);
         i += 1;
     }
 }

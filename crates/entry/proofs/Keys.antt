@@ -1,15 +1,15 @@
 -- One comparison of a packed copy is the test of its fields.
 use mathlib.Core.Path.{_≡_, refl, sym, _∙_}
 use mathlib.Core.Bool.{Bool, true, false}
-use Prim.Native.Nat.{ℕ, _+_, _*_, _/_, _%_, _<_}
+use Prim.Native.Nat.{ℕ, _+_, _-_, _*_, _/_, _%_, _<_}
 use native.Mathlib.Omega.{arith}
 use native.Mathlib.Decide.{ℕ-discrete}
 use lib.Dec.{eqb}
 use borrow.Author.Tests.{eq-eqb, ne-eqb, eqb-true, eqb-false}
 use Rattle.laws.specs.Choice.{both, either}
 use Rattle.entry.specs.Numbers.{NORMAL, TENTATIVE}
-use Rattle.entry.specs.Packing.{unpack, key-both, key-of, live-both, live-of}
-use Rattle.entry.specs.Entry.{isEntry, isLive}
+use Rattle.entry.specs.Packing.{pack, unpack, packedEnd, key-both, key-of, live-both, live-of}
+use Rattle.entry.specs.Entry.{withTag, isEntry, isLive}
 
 pub key-test : (x t w : ℕ) → w < 256 → eqb (x / 4294967296 % 1024) (t * 256 + w) ≡ isEntry (unpack x) t w
 key-test x t w h = by (ℕ-discrete (unpack x .tag) t) (ℕ-discrete (unpack x .word) w)
@@ -44,3 +44,10 @@ live-test x w h = by (ℕ-discrete (unpack x .tag % 2) 1) (ℕ-discrete (unpack 
     by (yes a) (no b) =
         rw (eq-eqb _ _ a, ne-eqb _ _ b) (ne-eqb (x / 4294967296 % 512) (256 + w) (λ e. b (live-both x w h e .1)))
     by (no a) b = rw (ne-eqb _ _ a) (ne-eqb (x / 4294967296 % 512) (256 + w) (λ e. a (live-both x w h e .0)))
+
+-- what of a number is a copy, and that copy made NORMAL
+pub whole-copy : (x : ℕ) → x % packedEnd ≡ pack (unpack x)
+whole-copy x = omega arith
+
+pub normal-copy : (x t : ℕ) → t ≡ unpack x .tag → x % packedEnd - t * 1099511627776 + 1099511627776 ≡ pack (withTag (unpack x) NORMAL)
+normal-copy x t e = omega arith

@@ -4,21 +4,18 @@ pub mod answer;
 pub mod numbers;
 pub mod packed;
 
-use crate::numbers::BACKUP;
 use crate::numbers::DIRTY;
 use crate::numbers::INVALID;
-use crate::numbers::NORMAL;
 use crate::numbers::READ;
 use crate::numbers::RESERVED;
 use crate::numbers::RFO;
 use crate::numbers::T_READ;
 use crate::numbers::T_RFO;
-use crate::numbers::TENTATIVE;
 use crate::numbers::VALID;
 use crate::numbers::WRITE;
 ghost use mathlib.Core.Path.{_≡_};
 ghost use Rattle.entry.specs.Packing.{noEntry, pack, unpack};
-ghost use Rattle.entry.specs.Entry.{withState, withTag, stored, rolledBack, committed, shared, snooped};
+ghost use Rattle.entry.specs.Entry.{withState, withTag, stored, shared, snooped};
 
 // A regular line has no tag: its tag is INVALID.
 pub struct Entry {
@@ -90,28 +87,6 @@ impl Entry {
             tag: self.tag,
             word: self.word,
             data: value,
-        }
-    }
-
-    pub fn rolled_back(self) -> Entry
-        ensures { λ r. ⌜ r ≡ rolledBack self ⌝ }
-    {
-        let tag = self.tag;
-        match tag {
-            TENTATIVE => Entry::none(),
-            BACKUP => self.with_tag(NORMAL),
-            INVALID..=NORMAL | 4..=255 => self,
-        }
-    }
-
-    pub fn committed(self) -> Entry
-        ensures { λ r. ⌜ r ≡ committed self ⌝ }
-    {
-        let tag = self.tag;
-        match tag {
-            BACKUP => Entry::none(),
-            TENTATIVE => self.with_tag(NORMAL),
-            INVALID..=NORMAL | 4..=255 => self,
         }
     }
 

@@ -1,10 +1,15 @@
-// Questions that a search asks of a packed copy, each by one comparison.
+// A packed copy as it stands in a cache: the questions that a search asks of it, each by one comparison, and what becomes of it where its
+// tag alone changes.
 
+use crate::numbers::BACKUP;
+use crate::numbers::TENTATIVE;
 ghost use mathlib.Core.Path.{_≡_};
 ghost use Prim.Native.Nat.{_+_, _*_};
 ghost use lib.Dec.{eqb};
-ghost use Rattle.entry.specs.Packing.{unpack};
-ghost use Rattle.entry.specs.Entry.{isEntry, isLive};
+ghost use Rattle.laws.specs.Choice.{pick};
+ghost use Rattle.entry.specs.Numbers.{NORMAL};
+ghost use Rattle.entry.specs.Packing.{noEntry, pack, unpack};
+ghost use Rattle.entry.specs.Entry.{withTag, rolledBack, committed, isEntry, isLive};
 
 pub fn tag_of(x: u64) -> u8
     ensures { λ r. ⌜ r ≡ unpack x .tag ⌝ }
@@ -30,4 +35,31 @@ pub fn is_live(x: u64, word: u8) -> bool
     ensures { λ r. ⌜ r ≡ isLive (unpack x) word ⌝ }
 {
     x / 4294967296 % 512 == 256 + (word as u64)
+}
+
+// With the tag gone it becomes invalid, with the tag kept NORMAL.
+fn ended(x: u64, gone: u8, kept: u8) -> u64
+    ensures { λ r. ⌜ r ≡ pack (pick (eqb (unpack x .tag) gone) noEntry (pick (eqb (unpack x .tag) kept) (withTag (unpack x) NORMAL) (unpack x))) ⌝ }
+{
+    let tag = tag_of(x);
+    if tag == gone {
+        return 0;
+    }
+    let whole = x % 17592186044416;
+    if tag == kept {
+        return whole - (tag as u64) * 1099511627776 + 1099511627776;
+    }
+    whole
+}
+
+pub fn rolled_back(x: u64) -> u64
+    ensures { λ r. ⌜ r ≡ pack (rolledBack (unpack x)) ⌝ }
+{
+    ended(x, TENTATIVE, BACKUP)
+}
+
+pub fn committed(x: u64) -> u64
+    ensures { λ r. ⌜ r ≡ pack (committed (unpack x)) ⌝ }
+{
+    ended(x, BACKUP, TENTATIVE)
 }

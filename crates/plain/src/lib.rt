@@ -10,7 +10,6 @@ use entry::numbers::NORMAL;
 use entry::numbers::READ;
 use entry::numbers::RESERVED;
 use entry::numbers::RFO;
-use entry::numbers::TENTATIVE;
 use entry::numbers::VALID;
 use entry::numbers::WRITE;
 use machine::Copies;
@@ -21,9 +20,10 @@ ghost use mathlib.Core.Path.{_≡_};
 ghost use mathlib.Core.List.{List};
 ghost use Prim.Native.Nat.{ℕ, _+_};
 ghost use Rattle.entry.specs.declared.answer.Answer.the-variants.{Value, Done};
-ghost use Rattle.entry.specs.Numbers.{READ, RFO, WRITE};
+ghost use Rattle.entry.specs.Numbers.{NORMAL, READ, RFO, WRITE};
 ghost use Rattle.entry.specs.Answer.{answered, asked, quiet, noCycles};
 ghost use Rattle.machine.specs.State.{caches, outcome, counted};
+ghost use Rattle.machine.specs.Own.{findEntry};
 ghost use Rattle.machine.specs.Load.{loadMiss, loadOn, load};
 ghost use Rattle.machine.specs.Store.{rollOwn, dropNormal, storeThrough, storeMiss, storeLine, store};
 
@@ -141,6 +141,7 @@ fn load_miss(
     loaded(v, w)
 }
 
+// The NORMAL entry is looked for already: it is i.
 fn load_on(
     memory: &mut Memory,
     lines: &mut Copies,
@@ -149,10 +150,11 @@ fn load_on(
     d: Dims,
     p: usize,
     word: u8,
+    i: usize,
 ) -> Answered
+    requires { ⌜ i ≡ findEntry (now entries) p (d .entries) NORMAL word ⌝ }
     ensures { λ r. ⌜ outcome r (caches (now (memory .exit)) (now (lines .exit)) (now (entries .exit)) (now (flags .exit))) ≡ loadOn d p word (caches (now (memory .entry)) (now (lines .entry)) (now (entries .entry)) (now (flags .entry))) ⌝ }
 {
-    let i = caches::find_entry(entries, p, d.entries, NORMAL, word);
     if i < d.entries {
         let j = p % 8 * 64 + i % 64;
         let e = Entry::unpack(entries[j]);
@@ -178,9 +180,10 @@ pub fn load(
     if caches::holds(line, word) {
         return hit(line.data);
     }
-    let i = caches::find_entry(entries, p, d.entries, TENTATIVE, word);
-    if i >= d.entries {
-        return load_on(memory, lines, entries, flags, d, p, word);
+    let own = caches::own_entry(entries, p, d.entries, word);
+    let i = own.at;
+    if !own.tentative {
+        return load_on(memory, lines, entries, flags, d, p, word, i);
     }
     let k = p % 8 * 64 + i % 64;
     let tentative = Entry::unpack(entries[k]);
@@ -188,22 +191,34 @@ pub fn load(
         return hit(tentative.data);
     }
     caches::rollback(entries, flags, p, d.entries);
-    load_on(memory, lines, entries, flags, d, p, word)
+    let normal = caches::find_entry(entries, p, d.entries, NORMAL, word);
+    load_on(memory, lines, entries, flags, d, p, word, normal)
 }
 
-fn roll_own(entries: &mut Copies, flags: &mut Flags, d: Dims, p: usize, word: u8)
+// Answers where the NORMAL entry then stands.
+fn roll_own(entries: &mut Copies, flags: &mut Flags, d: Dims, p: usize, word: u8) -> usize
     ensures { λ r. ⌜ ((m l : List ℕ) → caches m l (now (entries .exit)) (now (flags .exit)) ≡ rollOwn d p word (caches m l (now (entries .entry)) (now (flags .entry)))) ⌝ }
+    ensures { λ r. ⌜ r ≡ findEntry (now (entries .exit)) p (d .entries) NORMAL word ⌝ }
 {
-    let i = caches::find_entry(entries, p, d.entries, TENTATIVE, word);
-    if i < d.entries {
+    let own = caches::own_entry(entries, p, d.entries, word);
+    if own.tentative {
         caches::rollback(entries, flags, p, d.entries);
+        return caches::find_entry(entries, p, d.entries, NORMAL, word);
     }
+    own.at
 }
 
-fn drop_normal(memory: &mut Memory, entries: &mut Copies, d: Dims, p: usize, word: u8) -> u8
+fn drop_normal(
+    memory: &mut Memory,
+    entries: &mut Copies,
+    d: Dims,
+    p: usize,
+    word: u8,
+    i: usize,
+) -> u8
+    requires { ⌜ i ≡ findEntry (now entries) p (d .entries) NORMAL word ⌝ }
     ensures { λ r. ⌜ ((l f : List ℕ) → counted r (caches (now (memory .exit)) l (now (entries .exit)) f) ≡ dropNormal d p word (caches (now (memory .entry)) l (now (entries .entry)) f)) ⌝ }
 {
-    let i = caches::find_entry(entries, p, d.entries, NORMAL, word);
     if i < d.entries {
         return caches::clear(memory, entries, p, i);
     }
@@ -309,7 +324,7 @@ pub fn store(
 ) -> Answered
     ensures { λ r. ⌜ outcome r (caches (now (memory .exit)) (now (lines .exit)) (now (entries .exit)) (now (flags .exit))) ≡ store d p word v (caches (now (memory .entry)) (now (lines .entry)) (now (entries .entry)) (now (flags .entry))) ⌝ }
 {
-    roll_own(entries, flags, d, p, word);
-    let w = drop_normal(memory, entries, d, p, word);
+    let i = roll_own(entries, flags, d, p, word);
+    let w = drop_normal(memory, entries, d, p, word, i);
     store_line(memory, lines, entries, flags, d, p, word, v, w)
 }

@@ -7,7 +7,6 @@ use entry::answer::Counts;
 use entry::numbers::BACKUP;
 use entry::numbers::DIRTY;
 use entry::numbers::LT;
-use entry::numbers::NORMAL;
 use entry::numbers::RESERVED;
 use entry::numbers::ST;
 use entry::numbers::T_READ;
@@ -336,14 +335,14 @@ fn seek(
 ) -> Answered
     ensures { λ r. ⌜ outcome r (caches (now (memory .exit)) (now (lines .exit)) (now (entries .exit)) (now (flags .exit))) ≡ seek d op p word v (counted w1 (caches (now (memory .entry)) (now (lines .entry)) (now (entries .entry)) (now (flags .entry)))) ⌝ }
 {
-    let i = caches::find_entry(entries, p, d.entries, TENTATIVE, word);
-    if i < d.entries {
+    let own = caches::own_entry(entries, p, d.entries, word);
+    let i = own.at;
+    if own.tentative {
         return hit(memory, lines, entries, flags, d, op, p, i, word, v, w1, 0);
     }
-    let j = caches::find_entry(entries, p, d.entries, NORMAL, word);
-    if j < d.entries {
-        let w2 = open_normal(memory, entries, d, p, j);
-        return hit(memory, lines, entries, flags, d, op, p, j, word, v, w1, w2);
+    if i < d.entries {
+        let w2 = open_normal(memory, entries, d, p, i);
+        return hit(memory, lines, entries, flags, d, op, p, i, word, v, w1, w2);
     }
     miss(memory, lines, entries, flags, d, op, p, word, v, w1)
 }

@@ -25,20 +25,14 @@ loop-holds c = (search needs, rw sub-zero)
 add-j : tie.Need-add-j Inv-loop μ-loop
 add-j c = search needs
 
-mul-unpack : tie.Need-mul-unpack Inv-loop μ-loop
-mul-unpack c = search needs
+mul-committed : tie.Need-mul-committed Inv-loop μ-loop
+mul-committed c = search needs
 
-element-copy-out-unpack : tie.Need-element-copy-out-unpack Inv-loop μ-loop
-element-copy-out-unpack c = search needs
-
-unpack-requires : tie.Need-unpack-requires Inv-loop μ-loop
-unpack-requires c κs = search needs
+element-copy-out-committed : tie.Need-element-copy-out-committed Inv-loop μ-loop
+element-copy-out-committed c = search needs
 
 committed-requires : tie.Need-committed-requires Inv-loop μ-loop
 committed-requires c κs = search needs
-
-pack-requires : tie.Need-pack-requires Inv-loop μ-loop
-pack-requires c κs = search needs
 
 mul-entries : tie.Need-mul-entries Inv-loop μ-loop
 mul-entries c = search needs
@@ -54,8 +48,8 @@ loop-less c = search needs
 
 loop-again : tie.Need-loop-again Inv-loop μ-loop
 loop-again c =
-    let c1 = c .before .before .before .before .before in
-    (search needs, rw (c .pack .ensures, c .before .committed .ensures, c .before .before .unpack .ensures) (sym (apply-turn _ _ _ _ _ _ (search needs)) ∙ c1 .loop .inv .1))
+    let c1 = c .before .before .before in
+    (search needs, rw (c .committed .ensures) (sym (apply-turn _ _ _ _ _ _ (search needs)) ∙ c1 .loop .inv .1))
 
 returns : tie.Need-returns Inv-loop μ-loop
 returns c = sym (apply-end _ _ _ _ _ _ (search needs)) ∙ c .before .loop .inv .1
@@ -69,11 +63,9 @@ commit-entries-spec =
     mul-base
     loop-holds
     add-j
-    mul-unpack
-    element-copy-out-unpack
-    unpack-requires
+    mul-committed
+    element-copy-out-committed
     committed-requires
-    pack-requires
     mul-entries
     element-write-entries
     add-i

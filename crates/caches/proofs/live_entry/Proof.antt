@@ -4,7 +4,7 @@ use mathlib.Core.Bool.{false}
 use native.Mathlib.Omega.{arith}
 use denote.Ref.{now}
 use Rattle.machine.specs.Own.{hasLive, liveEntry}
-use Rattle.caches.proofs.Round.{none-next, round-hit, round-end}
+use Rattle.caches.proofs.Round.{none-next, none-on, round-hit, round-end}
 use Rattle.caches.proofs.Words.{no-live}
 use borrow.Author.Needs.{needs}
 use Rattle.caches.proofs.live_entry.Statement.{statement}
@@ -22,11 +22,11 @@ mul-base c = search needs
 reach-requires : tie.Need-reach-requires Inv-loop μ-loop
 reach-requires c κs = search needs
 
-before-word-requires : tie.Need-before-word-requires Inv-loop μ-loop
-before-word-requires c κs = search needs
-
 loop-holds : tie.Need-loop-holds Inv-loop μ-loop
-loop-holds c = let x = c .before .before .args in λ k a. no-live (now (x .entries)) (x .p) (x .word) k (c .before-word .ensures k a)
+loop-holds c = λ k a. absurd (omega arith)
+
+next-of-word-requires : tie.Need-next-of-word-requires Inv-loop μ-loop
+next-of-word-requires c κs = (search needs, c .before .before .reach .ensures .1)
 
 add-j : tie.Need-add-j Inv-loop μ-loop
 add-j c = search needs
@@ -47,22 +47,43 @@ loop-less : tie.Need-loop-less Inv-loop μ-loop
 loop-less c = search needs
 
 loop-again : tie.Need-loop-again Inv-loop μ-loop
-loop-again c = let x = c .before .before .before .before .before .before .before .args in
-    let i = c .before .before .before .before .loop .i in
-    let e : i % 64 ≡ i = search needs in
-    λ k a. none-next (hasLive (now (x .entries)) (x .p) (x .word)) 0 i (i + 1) (λ k a b. c .before .before .before .before .loop .inv k b) (rw e (sym (c .before .is-live .ensures) ∙ c .if2 .left)) (omega arith) k (omega arith) a
+loop-again c =
+    let x = c .before .before .before .before .before .before .before .before .args in
+    let s = c .before .before .before .before .before .before .loop in
+    let w = c .before .before .before .before .next-of-word in
+    let e : w .result % 64 ≡ w .result = search needs in
+    let p = hasLive (now (x .entries)) (x .p) (x .word) in
+    let o = none-on p 0 (s .i) (w .result) (λ k a b. s .inv k b) (λ k a b. no-live (now (x .entries)) (x .p) (x .word) k (w .ensures .0 k a b)) in
+    λ k a. none-next p 0 (w .result) (w .result + 1) o (rw e (sym (c .before .is-live .ensures) ∙ c .if3 .left)) (omega arith) k (omega arith) a
 
 returns : tie.Need-returns Inv-loop μ-loop
 unfolding liveEntry
-returns c = let x = c .before .before .before .before .args in
-    sym (round-end (hasLive (now (x .entries)) (x .p) (x .word)) _ _ (c .before .before .before .reach .ensures .0) (λ k. let e : k % 64 % 64 ≡ k % 64 = omega arith in rw e) (c .before .loop .i) (c .if1 .taken) (λ k a b. c .before .loop .inv k b))
+returns c =
+    let r = c .before .before .reach in
+    sym (round-end _ _ _ (r .ensures .0) (λ k. let e : k % 64 % 64 ≡ k % 64 = omega arith in rw e) (c .before .loop .i) (c .if1 .taken) (λ k a b. c .before .loop .inv k b))
 
 returns-2 : tie.Need-returns-2 Inv-loop μ-loop
 unfolding liveEntry
-returns-2 c = let x = c .before .before .before .before .before .before .before .args in
-    let i = c .before .before .before .before .loop .i in
-    let e : i % 64 ≡ i = search needs in
-    sym (round-hit (hasLive (now (x .entries)) (x .p) (x .word)) _ _ (c .before .before .before .before .before .before .reach .ensures .0) i (search needs) (rw e (sym (c .before .is-live .ensures) ∙ c .if2 .taken)) (λ k a b. c .before .before .before .before .loop .inv k b))
+returns-2 c =
+    let x = c .before .before .before .before .before .args in
+    let r = c .before .before .before .before .reach in
+    let s = c .before .before .before .loop in
+    let w = c .before .next-of-word in
+    let p = hasLive (now (x .entries)) (x .p) (x .word) in
+    let o = none-on p 0 (s .i) (w .result) (λ k a b. s .inv k b) (λ k a b. no-live (now (x .entries)) (x .p) (x .word) k (w .ensures .0 k a b)) in
+    sym (round-end p _ _ (r .ensures .0) (λ k. let e : k % 64 % 64 ≡ k % 64 = omega arith in rw e) (w .result) (c .if2 .taken) o)
+
+returns-3 : tie.Need-returns-3 Inv-loop μ-loop
+unfolding liveEntry
+returns-3 c =
+    let x = c .before .before .before .before .before .before .before .before .args in
+    let r = c .before .before .before .before .before .before .before .reach in
+    let s = c .before .before .before .before .before .before .loop in
+    let w = c .before .before .before .before .next-of-word in
+    let e : w .result % 64 ≡ w .result = search needs in
+    let p = hasLive (now (x .entries)) (x .p) (x .word) in
+    let o = none-on p 0 (s .i) (w .result) (λ k a b. s .inv k b) (λ k a b. no-live (now (x .entries)) (x .p) (x .word) k (w .ensures .0 k a b)) in
+    sym (round-hit p _ _ (r .ensures .0) (w .result) (search needs) (rw e (sym (c .before .is-live .ensures) ∙ c .if3 .taken)) o)
 
 pub live-entry-spec : {M : Type 1} → statement M
 live-entry-spec =
@@ -72,8 +93,8 @@ live-entry-spec =
     μ-loop
     mul-base
     reach-requires
-    before-word-requires
     loop-holds
+    next-of-word-requires
     add-j
     mul-is-live
     element-copy-out-is-live
@@ -82,4 +103,5 @@ live-entry-spec =
     loop-less
     loop-again
     returns
-    returns-2)
+    returns-2
+    returns-3)

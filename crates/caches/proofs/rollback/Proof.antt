@@ -25,20 +25,14 @@ loop-holds c = (search needs, rw sub-zero)
 add-j : tie.Need-add-j Inv-loop μ-loop
 add-j c = search needs
 
-mul-unpack : tie.Need-mul-unpack Inv-loop μ-loop
-mul-unpack c = search needs
+mul-rolled-back : tie.Need-mul-rolled-back Inv-loop μ-loop
+mul-rolled-back c = search needs
 
-element-copy-out-unpack : tie.Need-element-copy-out-unpack Inv-loop μ-loop
-element-copy-out-unpack c = search needs
-
-unpack-requires : tie.Need-unpack-requires Inv-loop μ-loop
-unpack-requires c κs = search needs
+element-copy-out-rolled-back : tie.Need-element-copy-out-rolled-back Inv-loop μ-loop
+element-copy-out-rolled-back c = search needs
 
 rolled-back-requires : tie.Need-rolled-back-requires Inv-loop μ-loop
 rolled-back-requires c κs = search needs
-
-pack-requires : tie.Need-pack-requires Inv-loop μ-loop
-pack-requires c κs = search needs
 
 mul-entries : tie.Need-mul-entries Inv-loop μ-loop
 mul-entries c = search needs
@@ -54,8 +48,8 @@ loop-less c = search needs
 
 loop-again : tie.Need-loop-again Inv-loop μ-loop
 loop-again c =
-    let c1 = c .before .before .before .before .before in
-    (search needs, rw (c .pack .ensures, c .before .rolled-back .ensures, c .before .before .unpack .ensures) (sym (apply-turn _ _ _ _ _ _ (search needs)) ∙ c1 .loop .inv .1))
+    let c1 = c .before .before .before in
+    (search needs, rw (c .rolled-back .ensures) (sym (apply-turn _ _ _ _ _ _ (search needs)) ∙ c1 .loop .inv .1))
 
 add-k : tie.Need-add-k Inv-loop μ-loop
 add-k c = search needs
@@ -76,11 +70,9 @@ rollback-spec =
     mul-base
     loop-holds
     add-j
-    mul-unpack
-    element-copy-out-unpack
-    unpack-requires
+    mul-rolled-back
+    element-copy-out-rolled-back
     rolled-back-requires
-    pack-requires
     mul-entries
     element-write-entries
     add-i

@@ -4,19 +4,16 @@ use borrow.Author.Needs.{needs}
 use Rattle.plain.proofs.drop_normal.Statement.{statement}
 use Rattle.plain.proofs.drop_normal.Tie as tie
 
-find-entry-requires : tie.Need-find-entry-requires
-find-entry-requires c κs = search needs
-
 clear-requires : tie.Need-clear-requires
 clear-requires c κs = search needs
 
 returns : tie.Need-returns
 unfolding dropNormal
-returns c = λ l f. rw (← c .before .before .before .before .before .find-entry .ensures, lt-ltb _ _ (c .before .before .before .if1 .taken), ← c .clear .ensures .0, ← c .clear .ensures .1, ← c .clear .ensures .2)
+returns c = λ l f. rw (← c .before .before .before .before .before .pre, lt-ltb _ _ (c .before .before .before .if1 .taken), ← c .clear .ensures .0, ← c .clear .ensures .1, ← c .clear .ensures .2)
 
 returns-2 : tie.Need-returns-2
 unfolding dropNormal
-returns-2 c = λ l f. rw (← c .before .before .find-entry .ensures, le-ltb _ _ (c .if1 .left))
+returns-2 c = λ l f. rw (← c .before .before .pre, le-ltb _ _ (c .if1 .left))
 
 pub drop-normal-spec : {M : Type 1} → statement M
-drop-normal-spec = tie.close (tie.spec find-entry-requires clear-requires returns returns-2)
+drop-normal-spec = tie.close (tie.spec clear-requires returns returns-2)

@@ -1,4 +1,6 @@
-use borrow.Author.Tests.{lt-ltb, le-ltb, eq-eqb, ne-eqb}
+use mathlib.Core.Path.{sym}
+use Rattle.caches.proofs.Live.{tentative-own, normal-own}
+use borrow.Author.Tests.{eq-eqb, ne-eqb, not-true, not-false}
 use Rattle.machine.specs.Load.{load}
 use borrow.Author.Needs.{needs}
 use Rattle.plain.proofs.load.Statement.{statement}
@@ -32,15 +34,25 @@ returns : tie.Need-returns
 unfolding load
 returns c = rw (← c .before .before .before .before .before .home .ensures, ← (rw (c .before .before .before .unpack .ensures) at (c .before .before .holds .ensures)), c .before .if1 .taken, c .hit .ensures, c .before .before .before .unpack .ensures)
 
-find-entry-requires : tie.Need-find-entry-requires
-find-entry-requires c κs = search needs
+own-entry-requires : tie.Need-own-entry-requires
+own-entry-requires c κs = search needs
 
 load-on-requires : tie.Need-load-on-requires
-load-on-requires c κs = search needs
+load-on-requires c κs =
+    let o = c .before .before .before .before .before .before .own-entry in
+    sym (normal-own _ _ _ _ _ (o .ensures) (not-true (o .result .tentative) (c .before .before .before .before .if2 .taken)) .1)
 
 returns-2 : tie.Need-returns-2
 unfolding load
-returns-2 c = rw (← c .before .before .before .before .before .before .before .before .before .before .before .before .before .home .ensures, ← (rw (c .before .before .before .before .before .before .before .before .before .before .before .unpack .ensures) at (c .before .before .before .before .before .before .before .before .before .before .holds .ensures)), c .before .before .before .before .before .before .before .before .before .if1 .left, ← c .before .before .before .before .before .before .before .find-entry .ensures, le-ltb _ _ (c .before .before .before .before .before .if2 .taken)) (c .load-on .ensures)
+returns-2 c =
+    let o = c .before .before .before .before .before .before .before .own-entry in
+    rw (
+      ← c .before .before .before .before .before .before .before .before .before .before .before .before .before .home .ensures,
+      ← (rw (c .before .before .before .before .before .before .before .before .before .before .before .unpack .ensures) at (c .before .before .before .before .before .before .before .before .before .before .holds .ensures)),
+      c .before .before .before .before .before .before .before .before .before .if1 .left,
+      normal-own _ _ _ _ _ (o .ensures) (not-true (o .result .tentative) (c .before .before .before .before .before .if2 .taken)) .0,
+    )
+    (c .load-on .ensures)
 
 mul-k : tie.Need-mul-k
 mul-k c = search needs
@@ -62,17 +74,47 @@ hit-requires-2 c κs = search needs
 
 returns-3 : tie.Need-returns-3
 unfolding load
-returns-3 c = rw (← c .before .before .before .before .before .before .before .before .before .before .before .before .before .home .ensures, ← (rw (c .before .before .before .before .before .before .before .before .before .before .before .unpack .ensures) at (c .before .before .before .before .before .before .before .before .before .before .holds .ensures)), c .before .before .before .before .before .before .before .before .before .if1 .left, ← c .before .before .before .before .before .before .before .find-entry .ensures, lt-ltb _ _ (c .before .before .before .before .before .if2 .left), eq-eqb _ _ (rw (c .before .before .before .unpack2 .ensures) at (c .before .if3 .taken)), c .hit2 .ensures, c .before .before .before .unpack2 .ensures)
+returns-3 c =
+    let o = c .before .before .before .before .before .before .before .own-entry in
+    let t = tentative-own _ _ _ _ _ (o .ensures) (not-false (o .result .tentative) (c .before .before .before .before .before .if2 .left)) in
+    let u = c .before .before .before .unpack2 in
+    rw (
+      ← c .before .before .before .before .before .before .before .before .before .before .before .before .before .home .ensures,
+      ← (rw (c .before .before .before .before .before .before .before .before .before .before .before .unpack .ensures) at (c .before .before .before .before .before .before .before .before .before .before .holds .ensures)),
+      c .before .before .before .before .before .before .before .before .before .if1 .left,
+      t .0,
+      t .1,
+      eq-eqb _ _ (rw (u .ensures) at (c .before .if3 .taken)),
+      c .hit2 .ensures,
+      u .ensures,
+    )
 
 rollback-requires : tie.Need-rollback-requires
 rollback-requires c κs = search needs
 
+find-entry-requires : tie.Need-find-entry-requires
+find-entry-requires c κs = search needs
+
 load-on-requires-2 : tie.Need-load-on-requires-2
-load-on-requires-2 c κs = search needs
+load-on-requires-2 c κs = c .before .before .before .before .find-entry .ensures
 
 returns-4 : tie.Need-returns-4
 unfolding load
-returns-4 c = rw (← c .before .before .before .before .before .before .before .before .before .before .before .before .before .before .before .before .before .before .before .before .home .ensures, ← (rw (c .before .before .before .before .before .before .before .before .before .before .before .before .before .before .before .before .before .before .unpack .ensures) at (c .before .before .before .before .before .before .before .before .before .before .before .before .before .before .before .before .before .holds .ensures)), c .before .before .before .before .before .before .before .before .before .before .before .before .before .before .before .before .if1 .left, ← c .before .before .before .before .before .before .before .before .before .before .before .before .before .before .find-entry .ensures, lt-ltb _ _ (c .before .before .before .before .before .before .before .before .before .before .before .before .if2 .left), ne-eqb _ _ (rw (c .before .before .before .before .before .before .before .before .before .before .unpack2 .ensures) at (c .before .before .before .before .before .before .before .before .if3 .left)), ← c .before .before .before .before .before .rollback .ensures .0, ← c .before .before .before .before .before .rollback .ensures .1) (c .load-on2 .ensures)
+returns-4 c =
+    let o = c .before .before .before .before .before .before .before .before .before .before .before .before .before .before .before .before .own-entry in
+    let t = tentative-own _ _ _ _ _ (o .ensures) (not-false (o .result .tentative) (c .before .before .before .before .before .before .before .before .before .before .before .before .before .before .if2 .left)) in
+    let r = c .before .before .before .before .before .before .before .rollback in
+    rw (
+      ← c .before .before .before .before .before .before .before .before .before .before .before .before .before .before .before .before .before .before .before .before .before .before .home .ensures,
+      ← (rw (c .before .before .before .before .before .before .before .before .before .before .before .before .before .before .before .before .before .before .before .before .unpack .ensures) at (c .before .before .before .before .before .before .before .before .before .before .before .before .before .before .before .before .before .before .before .holds .ensures)),
+      c .before .before .before .before .before .before .before .before .before .before .before .before .before .before .before .before .before .before .if1 .left,
+      t .0,
+      t .1,
+      ne-eqb _ _ (rw (c .before .before .before .before .before .before .before .before .before .before .before .before .unpack2 .ensures) at (c .before .before .before .before .before .before .before .before .before .before .if3 .left)),
+      ← r .ensures .0,
+      ← r .ensures .1,
+    )
+    (c .load-on2 .ensures)
 
 pub load-spec : {M : Type 1} → statement M
 load-spec =
@@ -87,7 +129,7 @@ load-spec =
     holds-requires
     hit-requires
     returns
-    find-entry-requires
+    own-entry-requires
     load-on-requires
     returns-2
     mul-k
@@ -98,5 +140,6 @@ load-spec =
     hit-requires-2
     returns-3
     rollback-requires
+    find-entry-requires
     load-on-requires-2
     returns-4)

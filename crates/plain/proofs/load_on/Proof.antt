@@ -4,9 +4,6 @@ use borrow.Author.Needs.{needs}
 use Rattle.plain.proofs.load_on.Statement.{statement}
 use Rattle.plain.proofs.load_on.Tie as tie
 
-find-entry-requires : tie.Need-find-entry-requires
-find-entry-requires c κs = search needs
-
 mul-j : tie.Need-mul-j
 mul-j c = search needs
 
@@ -27,20 +24,19 @@ hit-requires c κs = search needs
 
 returns : tie.Need-returns
 unfolding loadOn
-returns c = rw (← c .before .before .before .before .before .find-entry .ensures, lt-ltb _ _ (c .before .before .before .if1 .taken), c .hit .ensures, c .before .unpack .ensures)
+returns c = rw (← c .before .before .before .before .before .pre, lt-ltb _ _ (c .before .before .before .if1 .taken), c .hit .ensures, c .before .unpack .ensures)
 
 load-miss-requires : tie.Need-load-miss-requires
 load-miss-requires c κs = search needs
 
 returns-2 : tie.Need-returns-2
 unfolding loadOn
-returns-2 c = rw (← c .before .before .before .before .before .before .before .find-entry .ensures, le-ltb _ _ (c .before .before .before .before .before .if1 .left)) (c .load-miss .ensures)
+returns-2 c = rw (← c .before .before .before .before .before .before .before .pre, le-ltb _ _ (c .before .before .before .before .before .if1 .left)) (c .load-miss .ensures)
 
 pub load-on-spec : {M : Type 1} → statement M
 load-on-spec =
     tie.close
     (tie.spec
-    find-entry-requires
     mul-j
     add-j
     mul-unpack

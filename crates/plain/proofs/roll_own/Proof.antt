@@ -1,22 +1,32 @@
-use borrow.Author.Tests.{lt-ltb, le-ltb}
+use mathlib.Core.Path.{sym}
+use Rattle.caches.proofs.Live.{tentative-own, normal-own}
 use Rattle.machine.specs.Store.{rollOwn}
 use borrow.Author.Needs.{needs}
 use Rattle.plain.proofs.roll_own.Statement.{statement}
 use Rattle.plain.proofs.roll_own.Tie as tie
 
-find-entry-requires : tie.Need-find-entry-requires
-find-entry-requires c κs = search needs
+own-entry-requires : tie.Need-own-entry-requires
+own-entry-requires c κs = search needs
 
 rollback-requires : tie.Need-rollback-requires
 rollback-requires c κs = search needs
 
+find-entry-requires : tie.Need-find-entry-requires
+find-entry-requires c κs = search needs
+
 returns : tie.Need-returns
 unfolding rollOwn
-returns c = λ m l. rw (← c .before .before .before .before .before .find-entry .ensures, lt-ltb _ _ (c .before .before .before .if1 .taken), c .rollback .ensures .0, c .rollback .ensures .1)
+returns c =
+    let t = tentative-own _ _ _ _ _ (c .before .before .before .before .before .before .own-entry .ensures) (c .before .before .before .before .before .if1 .taken) in
+    let r = c .before .before .rollback in
+    (λ m l. rw (t .0, r .ensures .0, r .ensures .1), c .find-entry .ensures)
 
 returns-2 : tie.Need-returns-2
 unfolding rollOwn
-returns-2 c = λ m l. rw (← c .before .before .find-entry .ensures, le-ltb _ _ (c .if1 .left))
+returns-2 c =
+    let t = normal-own _ _ _ _ _ (c .before .own-entry .ensures) (c .if1 .left) in
+    (λ m l. rw (t .0), sym (t .1))
 
 pub roll-own-spec : {M : Type 1} → statement M
-roll-own-spec = tie.close (tie.spec find-entry-requires rollback-requires returns returns-2)
+roll-own-spec =
+    tie.close (tie.spec own-entry-requires rollback-requires find-entry-requires returns returns-2)

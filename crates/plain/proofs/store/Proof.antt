@@ -14,7 +14,7 @@ store-line-requires c κs = search needs
 
 returns : tie.Need-returns
 unfolding store
-returns c = rw (← c .before .before .before .before .before .before .before .before .roll-own .ensures _ _, ← c .before .before .before .before .before .drop-normal .ensures _ _) (c .store-line .ensures)
+returns c = rw (← c .before .before .before .before .before .before .before .before .roll-own .ensures .0 _ _, ← c .before .before .before .before .before .drop-normal .ensures _ _) (c .store-line .ensures)
 
 pub store-spec : {M : Type 1} → statement M
 store-spec =
