@@ -51,27 +51,26 @@ module _ (es : List ℕ) (q n word : ℕ) where
       first-at (hasEntry es q TENTATIVE word) i n h (rw (eq-eqb (e .tag) TENTATIVE t) w)
       (λ k a b. never-tentative k (first-not (hasLive es q word) 0 n k a b))
 
-module _ (d : Dims) (p word cycle : ℕ) (es : List ℕ) (q i : ℕ) (at : i ≡ firstOf d p word es q) where
-  pub none-opposes : d .entries ≤ i → otherOpposes d p word cycle es q ≡ false
+module _ (d : Dims) (n : ℕ) (of : d .entries ≡ n) (p word cycle : ℕ) (es : List ℕ) (q i : ℕ) (at : i ≡ firstOf n p word es q) where
+  pub none-opposes : n ≤ i → otherOpposes d p word cycle es q ≡ false
   unfolding firstOf opposes
   none-opposes h = by (eqb q p) at
     where
-      by : (b : Bool) → i ≡ pick b (d .entries) (liveEntry es q (d .entries) word) → both (not b) (opposes d word cycle q es) ≡ false
+      by : (b : Bool) → i ≡ pick b n (liveEntry es q n word) → both (not b) (opposes d word cycle q es) ≡ false
       by true e = refl
-      by false e = rw (none-tentative es q (d .entries) word (omega (arith, e)), le-ltb (d .entries) (d .entries) (omega arith))
+      by false e = rw (of, none-tentative es q n word (omega (arith, e)), le-ltb n n (omega arith))
 
-  pub first-opposes : i < d .entries → copyAt es q i .tag ≡ TENTATIVE →
+  pub first-opposes : i < n → copyAt es q i .tag ≡ TENTATIVE →
       otherOpposes d p word cycle es q ≡ either (takes cycle) (leb RESERVED (copyAt es q i .state))
   unfolding firstOf opposes
   first-opposes h t = by (eqb q p) at
     where
-      by : (b : Bool) → i ≡ pick b (d .entries) (liveEntry es q (d .entries) word) →
+      by : (b : Bool) → i ≡ pick b n (liveEntry es q n word) →
           both (not b) (opposes d word cycle q es) ≡ either (takes cycle) (leb RESERVED (copyAt es q i .state))
       by true e = absurd (omega (arith, e))
-      by false e =
-          rw (first-tentative es q (d .entries) word (omega (arith, e)) (rw (← e) t), ← e, lt-ltb i (d .entries) h)
+      by false e = rw (of, first-tentative es q n word (omega (arith, e)) (rw (← e) t), ← e, lt-ltb i n h)
 
 -- the first entry of another than p
-pub first-other : (d : Dims) (p word : ℕ) (es : List ℕ) (q : ℕ) → q ≢ p → firstOf d p word es q ≡ liveEntry es q (d .entries) word
+pub first-other : (n p word : ℕ) (es : List ℕ) (q : ℕ) → q ≢ p → firstOf n p word es q ≡ liveEntry es q n word
 unfolding firstOf
-first-other d p word es q h = rw (ne-eqb q p h)
+first-other n p word es q h = rw (ne-eqb q p h)

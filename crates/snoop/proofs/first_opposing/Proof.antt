@@ -1,6 +1,6 @@
 use lib.ListN.{length, length-set}
 use Prim.Native.Nat.{_≤_, _-_}
-use mathlib.Core.Path.{_≡_, _∙_, sym}
+use mathlib.Core.Path.{_≡_, refl, _∙_, sym}
 use native.Mathlib.Nat.{sub-zero}
 use native.Mathlib.Omega.{arith}
 use denote.Ref.{now}
@@ -13,7 +13,11 @@ use Rattle.snoop.proofs.first_opposing.Statement.{statement}
 use Rattle.snoop.proofs.first_opposing.Tie as tie
 
 abbrev Inv-loop : tie.InvT-loop
-Inv-loop entries firsts₀ d p word cycle n q₀ firsts q = (q ≤ n) × (firstFrom (otherOpposes d p word cycle entries) q (n - q) ≡ firstOpposing d p word cycle entries) × (noted d p word firsts entries q) × (length firsts ≡ 8)
+Inv-loop entries firsts₀ d p word cycle n q₀ firsts q =
+    (q ≤ n) ×
+    (firstFrom (otherOpposes d p word cycle entries) q (n - q) ≡ firstOpposing d p word cycle entries) ×
+    (noted d p word firsts entries q) ×
+    (length firsts ≡ 8)
 
 abbrev μ-loop : tie.MeasureT-loop
 μ-loop entries firsts₀ d p word cycle n q₀ firsts q = n - q
@@ -41,15 +45,31 @@ loop-less : tie.Need-loop-less Inv-loop μ-loop
 loop-less c = search needs
 
 loop-again : tie.Need-loop-again Inv-loop μ-loop
-loop-again c = let x = c .before .before .before .before .before .args in
-    (search needs, sym (first-miss _ _ _ (search needs) (sym (c .before .opposing-from .ensures) ∙ c .if2 .left)) ∙ c .before .before .before .before .loop .inv .1, note (x .d) (x .p) (x .word) (c .before .before .before .before .loop .firsts) (now (x .entries)) (c .before .before .before .before .loop .q) _ (search needs) (c .before .before .before .before .loop .inv .3) (c .before .before .first-of .ensures) (c .before .before .before .before .loop .inv .2), length-set (c .before .before .before .before .loop .firsts) _ _ ∙ c .before .before .before .before .loop .inv .3)
+loop-again c =
+    let l = c .before .before .before .before .loop in
+    let x = c .before .before .before .before .before .args in
+    let first = c .before .before .first-of .ensures in (
+      search needs,
+      sym (first-miss _ _ _ (search needs) (sym (c .before .opposing-from .ensures (x .d) refl) ∙ c .if2 .left)) ∙ l .inv .1,
+      note (x .d) (x .p) (x .word) (l .firsts) (now (x .entries)) (l .q) _ (search needs) (l .inv .3) first (l .inv .2),
+      length-set (l .firsts) _ _ ∙ l .inv .3,
+    )
 
 returns : tie.Need-returns Inv-loop μ-loop
-returns c = ((omega arith) ∙ sym (first-end _ _ _ (search needs)) ∙ c .before .loop .inv .1, λ few k a. c .before .loop .inv .2 few k (search needs))
+returns c =
+    let l = c .before .loop in
+    ((omega arith) ∙ sym (first-end _ _ _ (search needs)) ∙ l .inv .1, λ few k a. l .inv .2 few k (search needs))
 
 returns-2 : tie.Need-returns-2 Inv-loop μ-loop
-returns-2 c = let x = c .before .before .before .before .before .args in
-    (sym (first-hit _ _ _ (search needs) (sym (c .before .opposing-from .ensures) ∙ c .if2 .taken)) ∙ c .before .before .before .before .loop .inv .1, λ few k a. note (x .d) (x .p) (x .word) (c .before .before .before .before .loop .firsts) (now (x .entries)) (c .before .before .before .before .loop .q) _ (search needs) (c .before .before .before .before .loop .inv .3) (c .before .before .first-of .ensures) (c .before .before .before .before .loop .inv .2) few k (omega arith))
+returns-2 c =
+    let l = c .before .before .before .before .loop in
+    let x = c .before .before .before .before .before .args in
+    let first = c .before .before .first-of .ensures in (
+      sym (first-hit _ _ _ (search needs) (sym (c .before .opposing-from .ensures (x .d) refl) ∙ c .if2 .taken)) ∙ l .inv .1,
+      λ few k a.
+          note (x .d) (x .p) (x .word) (l .firsts) (now (x .entries)) (l .q) _ (search needs) (l .inv .3) first (l .inv .2)
+          few k (omega arith),
+    )
 
 pub first-opposing-spec : {M : Type 1} → statement M
 first-opposing-spec =

@@ -1,0 +1,50 @@
+use borrow.Author.Tests.{lt-ltb, le-ltb}
+use Rattle.machine.specs.Bus.{opposes}
+use borrow.Author.Needs.{needs}
+use Rattle.snoop.proofs.other.opposing.Statement.{statement}
+use Rattle.snoop.proofs.other.opposing.Tie as tie
+
+find-entry-requires : tie.Need-find-entry-requires
+find-entry-requires c κs = search needs
+
+returns : tie.Need-returns
+unfolding opposes
+returns c = λ d e. rw (e, ← c .before .find-entry .ensures, le-ltb _ _ (c .if1 .taken))
+
+mul-j : tie.Need-mul-j
+mul-j c = search needs
+
+add-j : tie.Need-add-j
+add-j c = search needs
+
+mul-unpack : tie.Need-mul-unpack
+mul-unpack c = search needs
+
+element-copy-out-unpack : tie.Need-element-copy-out-unpack
+element-copy-out-unpack c = search needs
+
+unpack-requires : tie.Need-unpack-requires
+unpack-requires c κs = search needs
+
+against-requires : tie.Need-against-requires
+against-requires c κs = search needs
+
+returns-2 : tie.Need-returns-2
+unfolding opposes
+returns-2 c =
+    let found = c .before .before .before in
+    λ d e. rw (e, ← found .before .find-entry .ensures, lt-ltb _ _ (found .if1 .left), c .against .ensures, c .before .unpack .ensures)
+
+pub opposing-spec : {M : Type 1} → statement M
+opposing-spec =
+    tie.close
+    (tie.spec
+    find-entry-requires
+    returns
+    mul-j
+    add-j
+    mul-unpack
+    element-copy-out-unpack
+    unpack-requires
+    against-requires
+    returns-2)

@@ -1,0 +1,66 @@
+use mathlib.Core.Path.{_≡_, refl, _∙_, sym, ap}
+use Prim.Native.Nat.{_≤_, _-_}
+use native.Mathlib.Nat.{sub-zero}
+use Rattle.laws.specs.Fold.{foldRange, fold-end, fold-turn}
+use Rattle.machine.specs.State.{caches}
+use Rattle.machine.specs.Bus.{snoopOne}
+use Rattle.snoop.proofs.Together.{rollAndSnoop, plain-together}
+use borrow.Author.Needs.{needs}
+use Rattle.snoop.proofs.roll_and_snoop.Statement.{statement}
+use Rattle.snoop.proofs.roll_and_snoop.Tie as tie
+
+abbrev Inv-loop : tie.InvT-loop
+Inv-loop memory₀ lines₀ entries₀ flags₀ d p word cycle i n q₀ memory lines entries flags q =
+    (q ≤ n) ×
+    (foldRange (rollAndSnoop d i p word cycle) q (n - q) (caches memory lines entries flags) ≡
+    foldRange (rollAndSnoop d i p word cycle) 0 n (caches memory₀ lines₀ entries₀ flags₀))
+
+abbrev μ-loop : tie.MeasureT-loop
+μ-loop memory₀ lines₀ entries₀ flags₀ d p word cycle i n q₀ memory lines entries flags q = n - q
+
+home-requires : tie.Need-home-requires Inv-loop μ-loop
+home-requires c κs = search needs
+
+loop-holds : tie.Need-loop-holds Inv-loop μ-loop
+loop-holds c = (search needs, rw sub-zero)
+
+roll-one-requires : tie.Need-roll-one-requires Inv-loop μ-loop
+roll-one-requires c κs = search needs
+
+snoop-at-requires : tie.Need-snoop-at-requires Inv-loop μ-loop
+snoop-at-requires c κs = c .before .before .before .roll-one .ensures .1
+
+add-q : tie.Need-add-q Inv-loop μ-loop
+add-q c = search needs
+
+loop-less : tie.Need-loop-less Inv-loop μ-loop
+loop-less c = search needs
+
+loop-again : tie.Need-loop-again Inv-loop μ-loop
+loop-again c =
+    let l = c .before .before .before .before .before .before .before .before .loop in
+    let x = c .before .before .before .before .before .before .before .before .before .before .args in
+    let roll = c .before .before .before .before .roll-one .ensures .0 (x .d) refl _ _ in
+    let turn = c .snoop-at .ensures (x .d) refl _ ∙ ap (snoopOne (x .d) _ (x .p) (x .word) (x .cycle) (l .q)) roll in
+    (search needs, ap (foldRange _ _ _) turn ∙ sym (fold-turn _ _ _ _ (search needs)) ∙ l .inv .1)
+
+returns : tie.Need-returns Inv-loop μ-loop
+returns c =
+    let x = c .before .before .before .args in
+    sym (fold-end _ _ _ _ (search needs)) ∙ c .before .loop .inv .1 ∙
+    rw (c .before .before .home .ensures) (plain-together (x .d) (x .p) (x .word) (x .cycle) (c .before .before .before .pre) _)
+
+pub roll-and-snoop-spec : {M : Type 1} → statement M
+roll-and-snoop-spec =
+    tie.close
+    (tie.spec
+    Inv-loop
+    μ-loop
+    home-requires
+    loop-holds
+    roll-one-requires
+    snoop-at-requires
+    add-q
+    loop-less
+    loop-again
+    returns)

@@ -1,0 +1,203 @@
+// What one other processor, q, does. Of the dimensions this needs n alone, the number of entries.
+
+use entry::Entry;
+use entry::numbers::READ;
+use entry::numbers::RESERVED;
+use entry::numbers::RFO;
+use entry::numbers::T_READ;
+use entry::numbers::T_RFO;
+use entry::numbers::TENTATIVE;
+use entry::numbers::WRITE;
+use machine::Copies;
+use machine::Flags;
+use machine::Memory;
+ghost use mathlib.Core.Path.{_≡_};
+ghost use mathlib.Core.List.{List};
+ghost use Prim.Native.Nat.{ℕ, _<_};
+ghost use lib.Dec.{leb};
+ghost use Rattle.laws.specs.Choice.{either};
+ghost use Rattle.entry.specs.Numbers.{RESERVED};
+ghost use Rattle.entry.specs.Entry.{takes, snooped};
+ghost use Rattle.machine.specs.declared.Dims.{Dims};
+ghost use Rattle.machine.specs.State.{caches, copyAt, withCopy};
+ghost use Rattle.machine.specs.Own.{liveEntry};
+ghost use Rattle.machine.specs.Bus.{writtenBack, snoopLine, snoopEntry, snoopOne, opposes, otherOpposes, rollOne};
+ghost use Rattle.snoop.specs.Firsts.{firstOf};
+
+pub(crate) fn first_of(entries: &Copies, n: usize, p: usize, word: u8, q: usize) -> usize
+    ensures { λ r. ⌜ r ≡ firstOf n p word (now (entries .entry)) q ⌝ }
+{
+    if q == p {
+        return n;
+    }
+    caches::live_entry(entries, q, n, word)
+}
+
+// Of lines or of entries: a copy that takes part.
+fn snoop_copy(memory: &mut Memory, copies: &mut Copies, cycle: u8, q: usize, i: usize)
+    ensures { λ r. ⌜ (now (memory .exit) ≡ writtenBack (now (memory .entry)) (copyAt (now (copies .entry)) q i)) × (now (copies .exit) ≡ withCopy (now (copies .entry)) q i (snooped cycle (copyAt (now (copies .entry)) q i))) ⌝ }
+{
+    let j = q % 8 * 64 + i % 64;
+    let e = Entry::unpack(copies[j]);
+    let w = caches::write_back(memory, e);
+    let f = e.snooped(cycle);
+    copies[j] = f.pack();
+}
+
+fn snoop_line(memory: &mut Memory, lines: &mut Copies, i: usize, word: u8, cycle: u8, q: usize)
+    ensures { λ r. ⌜ ((e f : List ℕ) → caches (now (memory .exit)) (now (lines .exit)) e f ≡ snoopLine i word cycle q (caches (now (memory .entry)) (now (lines .entry)) e f)) ⌝ }
+{
+    let j = q % 8 * 64 + i % 64;
+    let e = Entry::unpack(lines[j]);
+    if caches::holds(e, word) {
+        snoop_copy(memory, lines, cycle, q, i);
+    }
+}
+
+fn snoop_entry(
+    memory: &mut Memory,
+    entries: &mut Copies,
+    n: usize,
+    word: u8,
+    cycle: u8,
+    q: usize,
+    i: usize,
+)
+    requires { ⌜ i ≡ liveEntry (now entries) q n word ⌝ }
+    ensures { λ r. ⌜ ((d : Dims) → d .entries ≡ n → (l f : List ℕ) → caches (now (memory .exit)) l (now (entries .exit)) f ≡ snoopEntry d word cycle q (caches (now (memory .entry)) l (now (entries .entry)) f)) ⌝ }
+{
+    if i < n {
+        snoop_copy(memory, entries, cycle, q, i);
+    }
+}
+
+pub(crate) fn snoop_at(
+    memory: &mut Memory,
+    lines: &mut Copies,
+    entries: &mut Copies,
+    n: usize,
+    i: usize,
+    p: usize,
+    word: u8,
+    cycle: u8,
+    q: usize,
+    first: usize,
+)
+    requires { ⌜ first ≡ firstOf n p word (now entries) q ⌝ }
+    ensures { λ r. ⌜ ((d : Dims) → d .entries ≡ n → (f : List ℕ) → caches (now (memory .exit)) (now (lines .exit)) (now (entries .exit)) f ≡ snoopOne d i p word cycle q (caches (now (memory .entry)) (now (lines .entry)) (now (entries .entry)) f)) ⌝ }
+{
+    if q == p {
+        return;
+    }
+    snoop_line(memory, lines, i, word, cycle, q);
+    snoop_entry(memory, entries, n, word, cycle, q, first);
+}
+
+// Whether the cycle leaves no other copy.
+fn taking(cycle: u8) -> bool
+    ensures { λ r. ⌜ r ≡ takes cycle ⌝ }
+{
+    match cycle {
+        READ => false,
+        RFO => true,
+        WRITE => true,
+        T_READ => false,
+        T_RFO => true,
+        5..=255 => false,
+    }
+}
+
+// Whether a tentative copy of the word stands against the cycle.
+fn against(e: Entry, cycle: u8) -> bool
+    ensures { λ r. ⌜ r ≡ either (takes cycle) (leb RESERVED (e .state)) ⌝ }
+{
+    if taking(cycle) {
+        return true;
+    }
+    RESERVED <= e.state
+}
+
+fn opposing(entries: &Copies, n: usize, word: u8, cycle: u8, q: usize) -> bool
+    ensures { λ r. ⌜ ((d : Dims) → d .entries ≡ n → r ≡ opposes d word cycle q (now (entries .entry))) ⌝ }
+{
+    let i = caches::find_entry(entries, q, n, TENTATIVE, word);
+    if i >= n {
+        return false;
+    }
+    let j = q % 8 * 64 + i % 64;
+    let e = Entry::unpack(entries[j]);
+    against(e, cycle)
+}
+
+fn other_opposing(entries: &Copies, n: usize, p: usize, word: u8, cycle: u8, q: usize) -> bool
+    ensures { λ r. ⌜ ((d : Dims) → d .entries ≡ n → r ≡ otherOpposes d p word cycle (now (entries .entry)) q) ⌝ }
+{
+    if q == p {
+        return false;
+    }
+    opposing(entries, n, word, cycle, q)
+}
+
+// No tentative entry stands before the first NORMAL or tentative one. Behind a NORMAL one there is none in a sound state.
+fn opposing_at(
+    entries: &Copies,
+    n: usize,
+    p: usize,
+    word: u8,
+    cycle: u8,
+    q: usize,
+    first: usize,
+) -> bool
+    requires { ⌜ first ≡ firstOf n p word (now entries) q ⌝ }
+    requires { ⌜ first < n ⌝ }
+    ensures { λ r. ⌜ ((d : Dims) → d .entries ≡ n → r ≡ otherOpposes d p word cycle (now (entries .entry)) q) ⌝ }
+{
+    let j = q % 8 * 64 + first % 64;
+    let e = Entry::unpack(entries[j]);
+    if e.tag != TENTATIVE {
+        return other_opposing(entries, n, p, word, cycle, q);
+    }
+    against(e, cycle)
+}
+
+pub(crate) fn opposing_from(
+    entries: &Copies,
+    n: usize,
+    p: usize,
+    word: u8,
+    cycle: u8,
+    q: usize,
+    first: usize,
+) -> bool
+    requires { ⌜ first ≡ firstOf n p word (now entries) q ⌝ }
+    ensures { λ r. ⌜ ((d : Dims) → d .entries ≡ n → r ≡ otherOpposes d p word cycle (now (entries .entry)) q) ⌝ }
+{
+    if first >= n {
+        return false;
+    }
+    opposing_at(entries, n, p, word, cycle, q, first)
+}
+
+// Answers where q's first entry stands afterwards.
+pub(crate) fn roll_one(
+    entries: &mut Copies,
+    flags: &mut Flags,
+    n: usize,
+    p: usize,
+    word: u8,
+    cycle: u8,
+    q: usize,
+) -> usize
+    ensures { λ r. ⌜ ((d : Dims) → d .entries ≡ n → (m l : List ℕ) → caches m l (now (entries .exit)) (now (flags .exit)) ≡ rollOne d p word cycle q (caches m l (now (entries .entry)) (now (flags .entry)))) ⌝ }
+    ensures { λ r. ⌜ r ≡ firstOf n p word (now (entries .exit)) q ⌝ }
+{
+    let first = first_of(entries, n, p, word, q);
+    if first >= n {
+        return first;
+    }
+    if opposing_at(entries, n, p, word, cycle, q, first) {
+        caches::rollback(entries, flags, q, n);
+        return first_of(entries, n, p, word, q);
+    }
+    first
+}
