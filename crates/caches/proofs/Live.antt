@@ -43,7 +43,7 @@ either-tag t ne e = by (ℕ-discrete t NORMAL)
     by (no z) = absurd (false≢true (rw (ne-eqb t NORMAL z, ne-eqb t TENTATIVE ne) at e))
 
 module _ (es : List ℕ) (p n word : ℕ) where
-  pub never-tentative : (k : ℕ) → hasLive es p word k ≡ false → hasEntry es p TENTATIVE word k ≡ false
+  never-tentative : (k : ℕ) → hasLive es p word k ≡ false → hasEntry es p TENTATIVE word k ≡ false
   never-tentative k e =
       let t = copyAt es p k .tag in
       not-right (eqb t NORMAL) (eqb t TENTATIVE) (eqb (copyAt es p k .word) word) e
