@@ -111,18 +111,17 @@ fn roll_and_snoop(
     let n = d.processors;
     let mut q: usize = 0;
     while q < n {
-        let first = other::roll_one(entries, flags, d.entries, p, word, cycle, q);
-        other::snoop_at(
+        other::roll_and_snoop_one(
             memory,
             lines,
             entries,
+            flags,
             d.entries,
             i,
             p,
             word,
             cycle,
             q,
-            first,
         );
         q += 1;
     }

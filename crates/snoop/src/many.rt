@@ -9,7 +9,28 @@ ghost use mathlib.Core.Path.{_≡_};
 ghost use mathlib.Core.List.{List};
 ghost use Prim.Native.Nat.{ℕ};
 ghost use Rattle.machine.specs.State.{caches};
-ghost use Rattle.machine.specs.Bus.{snoop, rollOthers, plainRequest};
+ghost use Rattle.machine.specs.Bus.{snoopOne, snoop, rollOne, rollOthers, plainRequest};
+
+fn snoop_one(
+    memory: &mut Memory,
+    lines: &mut Copies,
+    entries: &mut Copies,
+    n: usize,
+    i: usize,
+    p: usize,
+    word: u8,
+    cycle: u8,
+    q: usize,
+)
+    ensures { λ r. ⌜ ((d : Dims) → d .entries ≡ n → (f : List ℕ) → caches (now (memory .exit)) (now (lines .exit)) (now (entries .exit)) f ≡ snoopOne d i p word cycle q (caches (now (memory .entry)) (now (lines .entry)) (now (entries .entry)) f)) ⌝ }
+{
+    if q == p {
+        return;
+    }
+    let first = caches::live_entry(entries, q, n, word);
+    other::snoop_line(memory, lines, i, word, cycle, q);
+    other::snoop_entry(memory, entries, n, word, cycle, q, first);
+}
 
 pub(crate) fn snoop(
     memory: &mut Memory,
@@ -26,20 +47,25 @@ pub(crate) fn snoop(
     let n = d.processors;
     let mut q: usize = 0;
     while q < n {
-        let first = other::first_of(entries, d.entries, p, word, q);
-        other::snoop_at(
-            memory,
-            lines,
-            entries,
-            d.entries,
-            i,
-            p,
-            word,
-            cycle,
-            q,
-            first,
-        );
+        snoop_one(memory, lines, entries, d.entries, i, p, word, cycle, q);
         q += 1;
+    }
+}
+
+// Not other::roll_one, which the compiler writes out where it has one caller, in the loop for at most 8.
+fn roll_one(
+    entries: &mut Copies,
+    flags: &mut Flags,
+    n: usize,
+    p: usize,
+    word: u8,
+    cycle: u8,
+    q: usize,
+)
+    ensures { λ r. ⌜ ((d : Dims) → d .entries ≡ n → (m l : List ℕ) → caches m l (now (entries .exit)) (now (flags .exit)) ≡ rollOne d p word cycle q (caches m l (now (entries .entry)) (now (flags .entry)))) ⌝ }
+{
+    if other::other_opposing(entries, n, p, word, cycle, q) {
+        caches::rollback(entries, flags, q, n);
     }
 }
 
@@ -49,7 +75,7 @@ fn roll_others(entries: &mut Copies, flags: &mut Flags, d: Dims, p: usize, word:
     let n = d.processors;
     let mut q: usize = 0;
     while q < n {
-        let first = other::roll_one(entries, flags, d.entries, p, word, cycle, q);
+        roll_one(entries, flags, d.entries, p, word, cycle, q);
         q += 1;
     }
 }

@@ -44,7 +44,14 @@ fn snoop_copy(memory: &mut Memory, copies: &mut Copies, cycle: u8, q: usize, i: 
     copies[j] = f.pack();
 }
 
-fn snoop_line(memory: &mut Memory, lines: &mut Copies, i: usize, word: u8, cycle: u8, q: usize)
+pub(crate) fn snoop_line(
+    memory: &mut Memory,
+    lines: &mut Copies,
+    i: usize,
+    word: u8,
+    cycle: u8,
+    q: usize,
+)
     ensures { λ r. ⌜ ((e f : List ℕ) → caches (now (memory .exit)) (now (lines .exit)) e f ≡ snoopLine i word cycle q (caches (now (memory .entry)) (now (lines .entry)) e f)) ⌝ }
 {
     let j = q % 8 * 64 + i % 64;
@@ -54,7 +61,7 @@ fn snoop_line(memory: &mut Memory, lines: &mut Copies, i: usize, word: u8, cycle
     }
 }
 
-fn snoop_entry(
+pub(crate) fn snoop_entry(
     memory: &mut Memory,
     entries: &mut Copies,
     n: usize,
@@ -129,7 +136,14 @@ fn opposing(entries: &Copies, n: usize, word: u8, cycle: u8, q: usize) -> bool
     against(e, cycle)
 }
 
-fn other_opposing(entries: &Copies, n: usize, p: usize, word: u8, cycle: u8, q: usize) -> bool
+pub(crate) fn other_opposing(
+    entries: &Copies,
+    n: usize,
+    p: usize,
+    word: u8,
+    cycle: u8,
+    q: usize,
+) -> bool
     ensures { λ r. ⌜ ((d : Dims) → d .entries ≡ n → r ≡ otherOpposes d p word cycle (now (entries .entry)) q) ⌝ }
 {
     if q == p {
@@ -179,7 +193,7 @@ pub(crate) fn opposing_from(
 }
 
 // Answers where q's first entry stands afterwards.
-pub(crate) fn roll_one(
+fn roll_one(
     entries: &mut Copies,
     flags: &mut Flags,
     n: usize,
@@ -200,4 +214,28 @@ pub(crate) fn roll_one(
         return first_of(entries, n, p, word, q);
     }
     first
+}
+
+// Like snoop_at it calls snoop_line and snoop_entry itself: these are small enough for the compiler to write out in each loop, which it does
+// not do with a function of both.
+pub(crate) fn roll_and_snoop_one(
+    memory: &mut Memory,
+    lines: &mut Copies,
+    entries: &mut Copies,
+    flags: &mut Flags,
+    n: usize,
+    i: usize,
+    p: usize,
+    word: u8,
+    cycle: u8,
+    q: usize,
+)
+    ensures { λ r. ⌜ ((d : Dims) → d .entries ≡ n → caches (now (memory .exit)) (now (lines .exit)) (now (entries .exit)) (now (flags .exit)) ≡ snoopOne d i p word cycle q (rollOne d p word cycle q (caches (now (memory .entry)) (now (lines .entry)) (now (entries .entry)) (now (flags .entry))))) ⌝ }
+{
+    if q == p {
+        return;
+    }
+    let surviving = roll_one(entries, flags, n, p, word, cycle, q);
+    snoop_line(memory, lines, i, word, cycle, q);
+    snoop_entry(memory, entries, n, word, cycle, q, surviving);
 }

@@ -1,9 +1,8 @@
-use mathlib.Core.Path.{_≡_, refl, _∙_, sym, ap}
 use Prim.Native.Nat.{_≤_, _-_}
+use mathlib.Core.Path.{_≡_, refl, _∙_, sym}
 use native.Mathlib.Nat.{sub-zero}
 use Rattle.laws.specs.Fold.{foldRange, fold-end, fold-turn}
 use Rattle.machine.specs.State.{caches}
-use Rattle.machine.specs.Bus.{snoopOne}
 use Rattle.snoop.proofs.Together.{rollAndSnoop, plain-together}
 use borrow.Author.Needs.{needs}
 use Rattle.snoop.proofs.roll_and_snoop.Statement.{statement}
@@ -24,11 +23,8 @@ home-requires c κs = search needs
 loop-holds : tie.Need-loop-holds Inv-loop μ-loop
 loop-holds c = (search needs, rw sub-zero)
 
-roll-one-requires : tie.Need-roll-one-requires Inv-loop μ-loop
-roll-one-requires c κs = search needs
-
-snoop-at-requires : tie.Need-snoop-at-requires Inv-loop μ-loop
-snoop-at-requires c κs = c .before .before .before .roll-one .ensures .1
+roll-and-snoop-one-requires : tie.Need-roll-and-snoop-one-requires Inv-loop μ-loop
+roll-and-snoop-one-requires c κs = search needs
 
 add-q : tie.Need-add-q Inv-loop μ-loop
 add-q c = search needs
@@ -38,11 +34,8 @@ loop-less c = search needs
 
 loop-again : tie.Need-loop-again Inv-loop μ-loop
 loop-again c =
-    let l = c .before .before .before .before .before .before .before .before .loop in
-    let x = c .before .before .before .before .before .before .before .before .before .before .args in
-    let roll = c .before .before .before .before .roll-one .ensures .0 (x .d) refl _ _ in
-    let turn = c .snoop-at .ensures (x .d) refl _ ∙ ap (snoopOne (x .d) _ (x .p) (x .word) (x .cycle) (l .q)) roll in
-    (search needs, ap (foldRange _ _ _) turn ∙ sym (fold-turn _ _ _ _ (search needs)) ∙ l .inv .1)
+    let one = c .roll-and-snoop-one .ensures (c .before .before .before .before .before .before .before .before .args .d) refl in
+    (search needs, rw one (sym (fold-turn _ _ _ _ (search needs)) ∙ c .before .before .before .before .before .before .loop .inv .1))
 
 returns : tie.Need-returns Inv-loop μ-loop
 returns c =
@@ -58,8 +51,7 @@ roll-and-snoop-spec =
     μ-loop
     home-requires
     loop-holds
-    roll-one-requires
-    snoop-at-requires
+    roll-and-snoop-one-requires
     add-q
     loop-less
     loop-again

@@ -33,9 +33,8 @@ loop-less c = search needs
 
 loop-again : tie.Need-loop-again Inv-loop μ-loop
 loop-again c =
-    let loop = c .before .before .before .before in
-    let one = c .roll-one .ensures .0 (loop .before .args .d) refl in
-    (search needs, λ m l. rw (one m l) (sym (fold-turn _ _ _ _ (search needs)) ∙ loop .loop .inv .1 m l))
+    let one = c .roll-one .ensures (c .before .before .before .before .before .args .d) refl in
+    (search needs, λ m l. rw (one m l) (sym (fold-turn _ _ _ _ (search needs)) ∙ c .before .before .before .before .loop .inv .1 m l))
 
 returns : tie.Need-returns Inv-loop μ-loop
 returns c = λ m l. sym (fold-end _ _ _ _ (search needs)) ∙ c .before .loop .inv .1 m l

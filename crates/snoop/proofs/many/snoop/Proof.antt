@@ -24,11 +24,8 @@ home-requires c κs = search needs
 loop-holds : tie.Need-loop-holds Inv-loop μ-loop
 loop-holds c = (search needs, λ f. rw sub-zero)
 
-first-of-requires : tie.Need-first-of-requires Inv-loop μ-loop
-first-of-requires c κs = search needs
-
-snoop-at-requires : tie.Need-snoop-at-requires Inv-loop μ-loop
-snoop-at-requires c κs = c .before .before .before .first-of .ensures
+snoop-one-requires : tie.Need-snoop-one-requires Inv-loop μ-loop
+snoop-one-requires c κs = search needs
 
 add-q : tie.Need-add-q Inv-loop μ-loop
 add-q c = search needs
@@ -38,14 +35,12 @@ loop-less c = search needs
 
 loop-again : tie.Need-loop-again Inv-loop μ-loop
 loop-again c =
-    let loop = c .before .before .before .before .before .before .before in
-    let one = c .snoop-at .ensures (loop .before .before .args .d) refl in
-    (search needs, λ f. rw (one f) (sym (fold-turn _ _ _ _ (search needs)) ∙ loop .loop .inv .1 f))
+    let one = c .snoop-one .ensures (c .before .before .before .before .before .before .before .args .d) refl in
+    (search needs, λ f. rw (one f) (sym (fold-turn _ _ _ _ (search needs)) ∙ c .before .before .before .before .before .loop .inv .1 f))
 
 returns : tie.Need-returns Inv-loop μ-loop
 unfolding snoop
-returns c =
-    λ f. rw (← c .before .before .home .ensures) (sym (fold-end _ _ _ _ (search needs)) ∙ c .before .loop .inv .1 f)
+returns c = λ f. rw (← c .before .before .home .ensures) (sym (fold-end _ _ _ _ (search needs)) ∙ c .before .loop .inv .1 f)
 
 pub snoop-spec : {M : Type 1} → statement M
 snoop-spec =
@@ -55,8 +50,7 @@ snoop-spec =
     μ-loop
     home-requires
     loop-holds
-    first-of-requires
-    snoop-at-requires
+    snoop-one-requires
     add-q
     loop-less
     loop-again
