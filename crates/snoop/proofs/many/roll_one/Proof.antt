@@ -11,8 +11,10 @@ rollback-requires c κs = search needs
 
 returns : tie.Need-returns
 unfolding rollOne
-returns c = λ d e m l.
-    rw (← c .before .before .before .before .other-opposing .ensures d e, c .before .before .before .if1 .taken, e, c .rollback .ensures .0, c .rollback .ensures .1)
+returns c =
+    let opposed = c .before .before .before in
+    let rolled = c .rollback .ensures in
+    λ d e m l. rw (← opposed .before .other-opposing .ensures d e, opposed .if1 .taken, e, rolled .0, rolled .1)
 
 returns-2 : tie.Need-returns-2
 unfolding rollOne

@@ -19,8 +19,9 @@ snoop-entry-requires c κs = search needs
 
 returns-2 : tie.Need-returns-2
 unfolding snoopOne
-returns-2 c = λ d e f.
-    rw (ne-eqb _ _ (c .before .before .before .before .before .before .before .before .if1 .left), ← c .before .before .before .snoop-line .ensures _ f) (c .snoop-entry .ensures d e _ f)
+returns-2 c =
+    let another = c .before .before .before .before .before .before .before .before .if1 .left in
+    λ d e f. rw (ne-eqb _ _ another, ← c .before .before .before .snoop-line .ensures _ f) (c .snoop-entry .ensures d e _ f)
 
 pub snoop-one-spec : {M : Type 1} → statement M
 snoop-one-spec =

@@ -17,12 +17,18 @@ snoop-line-requires : tie.Need-snoop-line-requires
 snoop-line-requires c κs = search needs
 
 snoop-entry-requires : tie.Need-snoop-entry-requires
-snoop-entry-requires c κs = c .before .before .before .before .before .roll-one .ensures .1 ∙ first-other _ _ _ _ _ (c .before .before .before .before .before .before .before .before .if1 .left)
+snoop-entry-requires c κs =
+    let rolled = c .before .before .before .before .before in
+    rolled .roll-one .ensures .1 ∙ first-other _ _ _ _ _ (rolled .before .before .before .if1 .left)
 
 returns-2 : tie.Need-returns-2
 unfolding snoopOne
-returns-2 c = λ d e.
-    rw (ne-eqb _ _ (c .before .before .before .before .before .before .before .before .before .if1 .left), ← c .before .before .before .before .before .before .roll-one .ensures .0 d e _ _, ← c .before .before .before .snoop-line .ensures _ _) (c .snoop-entry .ensures d e _ _)
+returns-2 c =
+    let rolled = c .before .before .before .before .before .before in
+    let another = rolled .before .before .before .if1 .left in
+    λ d e.
+    rw (ne-eqb _ _ another, ← rolled .roll-one .ensures .0 d e _ _, ← c .before .before .before .snoop-line .ensures _ _)
+    (c .snoop-entry .ensures d e _ _)
 
 pub roll-and-snoop-one-spec : {M : Type 1} → statement M
 roll-and-snoop-one-spec =
