@@ -67,7 +67,8 @@ module _ (es : List ℕ) (p n word : ℕ) where
   first-live tag never h t =
       let i = firstFrom (hasLive es p word) 0 n in
       let e = copyAt es p i in
-      let w = both-right (either (eqb (e .tag) NORMAL) (eqb (e .tag) TENTATIVE)) (eqb (e .word) word) (first-has (hasLive es p word) 0 n (omega arith)) in
+      let tagged = either (eqb (e .tag) NORMAL) (eqb (e .tag) TENTATIVE) in
+      let w = both-right tagged (eqb (e .word) word) (first-has (hasLive es p word) 0 n (omega arith)) in
       first-at (hasEntry es p tag word) i n h (rw (eq-eqb (e .tag) tag t) w)
       (λ k a b. never k (first-not (hasLive es p word) 0 n k a b))
 
@@ -102,7 +103,11 @@ module _ (es : List ℕ) (p n word : ℕ) where
     pub own-normal : i < n → copyAt es p i .tag ≢ TENTATIVE → n ≤ findEntry es p n TENTATIVE word → ownEntry es p n word ≡ own false i
     unfolding ownEntry
     own-normal h ne none =
-        rw (le-ltb (findEntry es p n TENTATIVE word) n none, first-live NORMAL never-normal (omega (arith, at)) (normal-tag (omega (arith, at)) (rw (← at) ne)), ← at)
+        rw (
+          le-ltb (findEntry es p n TENTATIVE word) n none,
+          first-live NORMAL never-normal (omega (arith, at)) (normal-tag (omega (arith, at)) (rw (← at) ne)),
+          ← at,
+        )
 
   -- a tentative one behind a NORMAL one
   pub own-behind : findEntry es p n TENTATIVE word < n → ownEntry es p n word ≡ own true (findEntry es p n TENTATIVE word)
@@ -111,7 +116,8 @@ module _ (es : List ℕ) (p n word : ℕ) where
 
 -- what an own entry's place says of the two tags
 module _ (es : List ℕ) (p n word : ℕ) (o : Own) (e : o ≡ ownEntry es p n word) where
-  by-tag : (b : Bool) → ltb (findEntry es p n TENTATIVE word) n ≡ b → o ≡ own b (pick b (findEntry es p n TENTATIVE word) (findEntry es p n NORMAL word))
+  by-tag : (b : Bool) → ltb (findEntry es p n TENTATIVE word) n ≡ b →
+      o ≡ own b (pick b (findEntry es p n TENTATIVE word) (findEntry es p n NORMAL word))
   unfolding ownEntry
   by-tag b t = e ∙ rw t
 

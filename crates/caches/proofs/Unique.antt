@@ -73,7 +73,8 @@ pub rollback-unique : (κs : Lfts 2) (a : ArgsD rollback.signature κs) (r r' : 
 rollback-unique κs a r r' s s' p q = (p .0 ∙ sym (q .0), p .1 ∙ sym (q .1))
 
 pub commit-entries-unique : (κs : Lfts 1) (a : ArgsD commit-entries.signature κs) (r r' : ResD commit-entries.signature κs)
-    (s s' : AtExit (endedOf 1 commit-entries-kinds.ps commit-entries-kinds.r) κs) → commit-entries-reads.Post κs a r s → commit-entries-reads.Post κs a r' s' →
+    (s s' : AtExit (endedOf 1 commit-entries-kinds.ps commit-entries-kinds.r) κs) →
+    commit-entries-reads.Post κs a r s → commit-entries-reads.Post κs a r' s' →
     now (s .0) ≡ now (s' .0)
 commit-entries-unique κs a r r' s s' p q = p ∙ sym q
 

@@ -29,7 +29,8 @@ write-back-requires c κs = search needs
 
 returns : tie.Need-returns
 returns c =
-    (rw (← c .before .before .unpack .ensures) (c .write-back .ensures .0), refl, rw (← c .before .before .unpack .ensures) (c .write-back .ensures .1))
+    let u = c .before .before .unpack .ensures in
+    (rw (← u) (c .write-back .ensures .0), refl, rw (← u) (c .write-back .ensures .1))
 
 pub clear-spec : {M : Type 1} → statement M
 clear-spec =

@@ -52,15 +52,17 @@ loop-again c =
     let s = c .before .before .before .before .before .before .loop in
     let w = c .before .before .before .before .next-of-word in
     let e : w .result % 64 ≡ w .result = search needs in
-    let p = hasEntry (now (x .entries)) (x .p) (x .tag) (x .word) in
-    let o = none-on p 0 (s .i) (w .result) (λ k a b. s .inv k b) (λ k a b. no-entry (now (x .entries)) (x .p) (x .tag) (x .word) k (w .ensures .0 k a b)) in
+    let es = now (x .entries) in
+    let p = hasEntry es (x .p) (x .tag) (x .word) in
+    let o = none-on p 0 (s .i) (w .result) (λ k a b. s .inv k b) (λ k a b. no-entry es (x .p) (x .tag) (x .word) k (w .ensures .0 k a b)) in
     λ k a. none-next p 0 (w .result) (w .result + 1) o (rw e (sym (c .before .is-entry .ensures) ∙ c .if3 .left)) (omega arith) k (omega arith) a
 
 returns : tie.Need-returns Inv-loop μ-loop
 unfolding findEntry
 returns c =
     let r = c .before .before .reach in
-    sym (round-end _ _ _ (r .ensures .0) (λ k. let e : k % 64 % 64 ≡ k % 64 = omega arith in rw e) (c .before .loop .i) (c .if1 .taken) (λ k a b. c .before .loop .inv k b))
+    let s = c .before .loop in
+    sym (round-end _ _ _ (r .ensures .0) (λ k. let e : k % 64 % 64 ≡ k % 64 = omega arith in rw e) (s .i) (c .if1 .taken) (λ k a b. s .inv k b))
 
 returns-2 : tie.Need-returns-2 Inv-loop μ-loop
 unfolding findEntry
@@ -69,8 +71,9 @@ returns-2 c =
     let r = c .before .before .before .before .reach in
     let s = c .before .before .before .loop in
     let w = c .before .next-of-word in
-    let p = hasEntry (now (x .entries)) (x .p) (x .tag) (x .word) in
-    let o = none-on p 0 (s .i) (w .result) (λ k a b. s .inv k b) (λ k a b. no-entry (now (x .entries)) (x .p) (x .tag) (x .word) k (w .ensures .0 k a b)) in
+    let es = now (x .entries) in
+    let p = hasEntry es (x .p) (x .tag) (x .word) in
+    let o = none-on p 0 (s .i) (w .result) (λ k a b. s .inv k b) (λ k a b. no-entry es (x .p) (x .tag) (x .word) k (w .ensures .0 k a b)) in
     sym (round-end p _ _ (r .ensures .0) (λ k. let e : k % 64 % 64 ≡ k % 64 = omega arith in rw e) (w .result) (c .if2 .taken) o)
 
 returns-3 : tie.Need-returns-3 Inv-loop μ-loop
@@ -81,8 +84,9 @@ returns-3 c =
     let s = c .before .before .before .before .before .before .loop in
     let w = c .before .before .before .before .next-of-word in
     let e : w .result % 64 ≡ w .result = search needs in
-    let p = hasEntry (now (x .entries)) (x .p) (x .tag) (x .word) in
-    let o = none-on p 0 (s .i) (w .result) (λ k a b. s .inv k b) (λ k a b. no-entry (now (x .entries)) (x .p) (x .tag) (x .word) k (w .ensures .0 k a b)) in
+    let es = now (x .entries) in
+    let p = hasEntry es (x .p) (x .tag) (x .word) in
+    let o = none-on p 0 (s .i) (w .result) (λ k a b. s .inv k b) (λ k a b. no-entry es (x .p) (x .tag) (x .word) k (w .ensures .0 k a b)) in
     sym (round-hit p _ _ (r .ensures .0) (w .result) (search needs) (rw e (sym (c .before .is-entry .ensures) ∙ c .if3 .taken)) o)
 
 pub find-from-spec : {M : Type 1} → statement M

@@ -60,7 +60,8 @@ returns : tie.Need-returns Inv-loop μ-loop
 unfolding liveEntry
 returns c =
     let r = c .before .before .reach in
-    sym (round-end _ _ _ (r .ensures .0) (λ k. let e : k % 64 % 64 ≡ k % 64 = omega arith in rw e) (c .before .loop .i) (c .if1 .taken) (λ k a b. c .before .loop .inv k b))
+    let s = c .before .loop in
+    sym (round-end _ _ _ (r .ensures .0) (λ k. let e : k % 64 % 64 ≡ k % 64 = omega arith in rw e) (s .i) (c .if1 .taken) (λ k a b. s .inv k b))
 
 returns-2 : tie.Need-returns-2 Inv-loop μ-loop
 unfolding liveEntry

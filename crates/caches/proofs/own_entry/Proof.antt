@@ -42,10 +42,13 @@ returns-3 c =
 
 returns-4 : tie.Need-returns-4
 returns-4 c =
-    let l = c .before .before .before .before .before .before .live-entry in
+    let live = c .before .before .before .before .before in
+    let l = live .before .live-entry in
     let f = c .before .find-from in
     let t = c .before .before .before .tag-of in
-    sym (own-normal _ _ _ _ _ (l .ensures) (c .before .before .before .before .before .if1 .left) (λ e. c .before .before .if2 .left (t .ensures ∙ e)) (rw (f .ensures) at (c .if3 .left)))
+    sym
+    (own-normal _ _ _ _ _ (l .ensures) (live .if1 .left) (λ e. c .before .before .if2 .left (t .ensures ∙ e))
+    (rw (f .ensures) at (c .if3 .left)))
 
 pub own-entry-spec : {M : Type 1} → statement M
 own-entry-spec =

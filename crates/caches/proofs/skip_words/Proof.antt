@@ -23,7 +23,10 @@ has-word-requires : tie.Need-has-word-requires
 has-word-requires c κs = search needs
 
 returns : tie.Need-returns
-returns c = let x = c .before .before .before .args in let es = now (x .entries) in let q = ofWord es (x .p) (x .word) in
+returns c =
+    let x = c .before .before .before .args in
+    let es = now (x .entries) in
+    let q = ofWord es (x .p) (x .word) in
     let n0 = none-yet q (x .i) in
     (n0, search needs)
 
@@ -43,9 +46,13 @@ add-result : tie.Need-add-result
 add-result c = search needs
 
 returns-2 : tie.Need-returns-2
-returns-2 c = let x = c .before .before .before .before .before .before .args in let es = now (x .entries) in let q = ofWord es (x .p) (x .word) in
+returns-2 c =
+    let first = c .before .before .before in
+    let x = first .before .before .before .args in
+    let es = now (x .entries) in
+    let q = ofWord es (x .p) (x .word) in
     let n0 = none-yet q (x .i) in
-    let o1 = other-word es (x .p) (x .word) (x .i) _ _ (c .before .before .before .before .has-word .ensures) (c .before .before .before .if1 .left) (search needs) (search needs) in
+    let o1 = other-word es (x .p) (x .word) (x .i) _ _ (first .before .has-word .ensures) (first .if1 .left) (search needs) (search needs) in
     let n1 = none-next q (x .i) (x .i) (x .i + 1) n0 o1 (omega arith) in
     (n1, search needs)
 
@@ -65,11 +72,16 @@ add-result-2 : tie.Need-add-result-2
 add-result-2 c = search needs
 
 returns-3 : tie.Need-returns-3
-returns-3 c = let x = c .before .before .before .before .before .before .before .before .before .args in let es = now (x .entries) in let q = ofWord es (x .p) (x .word) in
+returns-3 c =
+    let second = c .before .before .before in
+    let first = second .before .before .before in
+    let x = first .before .before .before .args in
+    let es = now (x .entries) in
+    let q = ofWord es (x .p) (x .word) in
     let n0 = none-yet q (x .i) in
-    let o1 = other-word es (x .p) (x .word) (x .i) _ _ (c .before .before .before .before .before .before .before .has-word .ensures) (c .before .before .before .before .before .before .if1 .left) (search needs) (search needs) in
+    let o1 = other-word es (x .p) (x .word) (x .i) _ _ (first .before .has-word .ensures) (first .if1 .left) (search needs) (search needs) in
     let n1 = none-next q (x .i) (x .i) (x .i + 1) n0 o1 (omega arith) in
-    let o2 = other-word es (x .p) (x .word) (x .i + 1) _ _ (c .before .before .before .before .has-word2 .ensures) (c .before .before .before .if2 .left) (search needs) (search needs) in
+    let o2 = other-word es (x .p) (x .word) (x .i + 1) _ _ (second .before .has-word2 .ensures) (second .if2 .left) (search needs) (search needs) in
     let n2 = none-next q (x .i) (x .i + 1) (x .i + 2) n1 o2 (omega arith) in
     (n2, search needs)
 
@@ -89,13 +101,19 @@ add-result-3 : tie.Need-add-result-3
 add-result-3 c = search needs
 
 returns-4 : tie.Need-returns-4
-returns-4 c = let x = c .before .before .before .before .before .before .before .before .before .before .before .before .args in let es = now (x .entries) in let q = ofWord es (x .p) (x .word) in
+returns-4 c =
+    let third = c .before .before .before in
+    let second = third .before .before .before in
+    let first = second .before .before .before in
+    let x = first .before .before .before .args in
+    let es = now (x .entries) in
+    let q = ofWord es (x .p) (x .word) in
     let n0 = none-yet q (x .i) in
-    let o1 = other-word es (x .p) (x .word) (x .i) _ _ (c .before .before .before .before .before .before .before .before .before .before .has-word .ensures) (c .before .before .before .before .before .before .before .before .before .if1 .left) (search needs) (search needs) in
+    let o1 = other-word es (x .p) (x .word) (x .i) _ _ (first .before .has-word .ensures) (first .if1 .left) (search needs) (search needs) in
     let n1 = none-next q (x .i) (x .i) (x .i + 1) n0 o1 (omega arith) in
-    let o2 = other-word es (x .p) (x .word) (x .i + 1) _ _ (c .before .before .before .before .before .before .before .has-word2 .ensures) (c .before .before .before .before .before .before .if2 .left) (search needs) (search needs) in
+    let o2 = other-word es (x .p) (x .word) (x .i + 1) _ _ (second .before .has-word2 .ensures) (second .if2 .left) (search needs) (search needs) in
     let n2 = none-next q (x .i) (x .i + 1) (x .i + 2) n1 o2 (omega arith) in
-    let o3 = other-word es (x .p) (x .word) (x .i + 2) _ _ (c .before .before .before .before .has-word3 .ensures) (c .before .before .before .if3 .left) (search needs) (search needs) in
+    let o3 = other-word es (x .p) (x .word) (x .i + 2) _ _ (third .before .has-word3 .ensures) (third .if3 .left) (search needs) (search needs) in
     let n3 = none-next q (x .i) (x .i + 2) (x .i + 3) n2 o3 (omega arith) in
     (n3, search needs)
 
@@ -103,13 +121,19 @@ add-result-4 : tie.Need-add-result-4
 add-result-4 c = search needs
 
 returns-5 : tie.Need-returns-5
-returns-5 c = let x = c .before .before .before .before .before .before .before .before .before .before .before .before .args in let es = now (x .entries) in let q = ofWord es (x .p) (x .word) in
+returns-5 c =
+    let third = c .before .before .before in
+    let second = third .before .before .before in
+    let first = second .before .before .before in
+    let x = first .before .before .before .args in
+    let es = now (x .entries) in
+    let q = ofWord es (x .p) (x .word) in
     let n0 = none-yet q (x .i) in
-    let o1 = other-word es (x .p) (x .word) (x .i) _ _ (c .before .before .before .before .before .before .before .before .before .before .has-word .ensures) (c .before .before .before .before .before .before .before .before .before .if1 .left) (search needs) (search needs) in
+    let o1 = other-word es (x .p) (x .word) (x .i) _ _ (first .before .has-word .ensures) (first .if1 .left) (search needs) (search needs) in
     let n1 = none-next q (x .i) (x .i) (x .i + 1) n0 o1 (omega arith) in
-    let o2 = other-word es (x .p) (x .word) (x .i + 1) _ _ (c .before .before .before .before .before .before .before .has-word2 .ensures) (c .before .before .before .before .before .before .if2 .left) (search needs) (search needs) in
+    let o2 = other-word es (x .p) (x .word) (x .i + 1) _ _ (second .before .has-word2 .ensures) (second .if2 .left) (search needs) (search needs) in
     let n2 = none-next q (x .i) (x .i + 1) (x .i + 2) n1 o2 (omega arith) in
-    let o3 = other-word es (x .p) (x .word) (x .i + 2) _ _ (c .before .before .before .before .has-word3 .ensures) (c .before .before .before .if3 .left) (search needs) (search needs) in
+    let o3 = other-word es (x .p) (x .word) (x .i + 2) _ _ (third .before .has-word3 .ensures) (third .if3 .left) (search needs) (search needs) in
     let n3 = none-next q (x .i) (x .i + 2) (x .i + 3) n2 o3 (omega arith) in
     let o4 = other-word es (x .p) (x .word) (x .i + 3) _ _ (c .before .has-word4 .ensures) (c .if4 .left) (search needs) (search needs) in
     let n4 = none-next q (x .i) (x .i + 3) (x .i + 4) n3 o4 (omega arith) in
