@@ -28,6 +28,8 @@ request-unique κs a r r' s s' p q =
     (e, picked r r' _ _ _ _ (p .1 []) (q .1 []) e)
 
 pub plain-request-unique : (κs : Lfts 4) (a : ArgsD plain-request.signature κs) (r r' : ResD plain-request.signature κs)
-    (s s' : AtExit (endedOf 4 plain-request-kinds.ps plain-request-kinds.r) κs) → plain-request-reads.Post κs a r s → plain-request-reads.Post κs a r' s' →
-    caches (now (s .0)) (now (s .1 .0)) (now (s .1 .1 .0)) (now (s .1 .1 .1 .0)) ≡ caches (now (s' .0)) (now (s' .1 .0)) (now (s' .1 .1 .0)) (now (s' .1 .1 .1 .0))
+    (s s' : AtExit (endedOf 4 plain-request-kinds.ps plain-request-kinds.r) κs) →
+    plain-request-reads.Post κs a r s → plain-request-reads.Post κs a r' s' →
+    caches (now (s .0)) (now (s .1 .0)) (now (s .1 .1 .0)) (now (s .1 .1 .1 .0)) ≡
+    caches (now (s' .0)) (now (s' .1 .0)) (now (s' .1 .1 .0)) (now (s' .1 .1 .1 .0))
 plain-request-unique κs a r r' s s' p q = p ∙ sym q
