@@ -9,7 +9,10 @@ clear-requires c κs = search needs
 
 returns : tie.Need-returns
 unfolding dropNormal
-returns c = λ l f. rw (← c .before .before .before .before .before .pre, lt-ltb _ _ (c .before .before .before .if1 .taken), ← c .clear .ensures .0, ← c .clear .ensures .1, ← c .clear .ensures .2)
+returns c =
+    let found = c .before .before .before in
+    let cleared = c .clear .ensures in
+    λ l f. rw (← found .before .before .pre, lt-ltb _ _ (found .if1 .taken), ← cleared .0, ← cleared .1, ← cleared .2)
 
 returns-2 : tie.Need-returns-2
 unfolding dropNormal

@@ -32,25 +32,37 @@ hit-requires c κs = search needs
 
 returns : tie.Need-returns
 unfolding load
-returns c = rw (← c .before .before .before .before .before .home .ensures, ← (rw (c .before .before .before .unpack .ensures) at (c .before .before .holds .ensures)), c .before .if1 .taken, c .hit .ensures, c .before .before .before .unpack .ensures)
+returns c =
+    let line = c .before in
+    let u = line .before .before .unpack .ensures in
+    rw (
+      ← line .before .before .before .before .home .ensures,
+      ← (rw u at (line .before .holds .ensures)),
+      line .if1 .taken,
+      c .hit .ensures,
+      u,
+    )
 
 own-entry-requires : tie.Need-own-entry-requires
 own-entry-requires c κs = search needs
 
 load-on-requires : tie.Need-load-on-requires
 load-on-requires c κs =
-    let o = c .before .before .before .before .before .before .own-entry in
-    sym (normal-own _ _ _ _ _ (o .ensures) (not-true (o .result .tentative) (c .before .before .before .before .if2 .taken)) .1)
+    let own = c .before .before .before .before in
+    let o = own .before .before .own-entry in
+    sym (normal-own _ _ _ _ _ (o .ensures) (not-true (o .result .tentative) (own .if2 .taken)) .1)
 
 returns-2 : tie.Need-returns-2
 unfolding load
 returns-2 c =
-    let o = c .before .before .before .before .before .before .before .own-entry in
+    let own = c .before .before .before .before .before in
+    let o = own .before .before .own-entry in
+    let line = own .before .before .before .before in
     rw (
-      ← c .before .before .before .before .before .before .before .before .before .before .before .before .before .home .ensures,
-      ← (rw (c .before .before .before .before .before .before .before .before .before .before .before .unpack .ensures) at (c .before .before .before .before .before .before .before .before .before .before .holds .ensures)),
-      c .before .before .before .before .before .before .before .before .before .if1 .left,
-      normal-own _ _ _ _ _ (o .ensures) (not-true (o .result .tentative) (c .before .before .before .before .before .if2 .taken)) .0,
+      ← line .before .before .before .before .home .ensures,
+      ← (rw (line .before .before .unpack .ensures) at (line .before .holds .ensures)),
+      line .if1 .left,
+      normal-own _ _ _ _ _ (o .ensures) (not-true (o .result .tentative) (own .if2 .taken)) .0,
     )
     (c .load-on .ensures)
 
@@ -75,13 +87,15 @@ hit-requires-2 c κs = search needs
 returns-3 : tie.Need-returns-3
 unfolding load
 returns-3 c =
-    let o = c .before .before .before .before .before .before .before .own-entry in
-    let t = tentative-own _ _ _ _ _ (o .ensures) (not-false (o .result .tentative) (c .before .before .before .before .before .if2 .left)) in
+    let own = c .before .before .before .before .before in
+    let o = own .before .before .own-entry in
+    let t = tentative-own _ _ _ _ _ (o .ensures) (not-false (o .result .tentative) (own .if2 .left)) in
     let u = c .before .before .before .unpack2 in
+    let line = own .before .before .before .before in
     rw (
-      ← c .before .before .before .before .before .before .before .before .before .before .before .before .before .home .ensures,
-      ← (rw (c .before .before .before .before .before .before .before .before .before .before .before .unpack .ensures) at (c .before .before .before .before .before .before .before .before .before .before .holds .ensures)),
-      c .before .before .before .before .before .before .before .before .before .if1 .left,
+      ← line .before .before .before .before .home .ensures,
+      ← (rw (line .before .before .unpack .ensures) at (line .before .holds .ensures)),
+      line .if1 .left,
       t .0,
       t .1,
       eq-eqb _ _ (rw (u .ensures) at (c .before .if3 .taken)),
@@ -101,16 +115,19 @@ load-on-requires-2 c κs = c .before .before .before .before .find-entry .ensure
 returns-4 : tie.Need-returns-4
 unfolding load
 returns-4 c =
-    let o = c .before .before .before .before .before .before .before .before .before .before .before .before .before .before .before .before .own-entry in
-    let t = tentative-own _ _ _ _ _ (o .ensures) (not-false (o .result .tentative) (c .before .before .before .before .before .before .before .before .before .before .before .before .before .before .if2 .left)) in
+    let state = c .before .before .before .before .before .before .before .before .before .before in
+    let own = state .before .before .before .before in
+    let o = own .before .before .own-entry in
+    let t = tentative-own _ _ _ _ _ (o .ensures) (not-false (o .result .tentative) (own .if2 .left)) in
+    let line = own .before .before .before .before in
     let r = c .before .before .before .before .before .before .before .rollback in
     rw (
-      ← c .before .before .before .before .before .before .before .before .before .before .before .before .before .before .before .before .before .before .before .before .before .before .home .ensures,
-      ← (rw (c .before .before .before .before .before .before .before .before .before .before .before .before .before .before .before .before .before .before .before .before .unpack .ensures) at (c .before .before .before .before .before .before .before .before .before .before .before .before .before .before .before .before .before .before .before .holds .ensures)),
-      c .before .before .before .before .before .before .before .before .before .before .before .before .before .before .before .before .before .before .if1 .left,
+      ← line .before .before .before .before .home .ensures,
+      ← (rw (line .before .before .unpack .ensures) at (line .before .holds .ensures)),
+      line .if1 .left,
       t .0,
       t .1,
-      ne-eqb _ _ (rw (c .before .before .before .before .before .before .before .before .before .before .before .before .unpack2 .ensures) at (c .before .before .before .before .before .before .before .before .before .before .if3 .left)),
+      ne-eqb _ _ (rw (state .before .before .unpack2 .ensures) at (state .if3 .left)),
       ← r .ensures .0,
       ← r .ensures .1,
     )

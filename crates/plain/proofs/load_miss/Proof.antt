@@ -38,7 +38,16 @@ loaded-requires c κs = search needs
 
 returns : tie.Need-returns
 unfolding loadMiss
-returns c = rw (← c .before .before .before .before .before .before .before .before .before .before .before .home .ensures, ← c .before .before .before .before .before .before .before .before .clear .ensures .0, ← c .before .before .before .before .before .before .before .before .clear .ensures .1, ← c .before .before .before .before .before .before .before .before .clear .ensures .2) (rw (← c .before .before .before .plain-request .ensures) (rw (c .before .pack .ensures, c .loaded .ensures)))
+returns c =
+    let clear = c .before .before .before .before .before .before .before .before in
+    let cleared = clear .clear .ensures in
+    rw (
+      ← clear .before .before .before .home .ensures,
+      ← cleared .0,
+      ← cleared .1,
+      ← cleared .2,
+    )
+    (rw (← c .before .before .before .plain-request .ensures) (rw (c .before .pack .ensures, c .loaded .ensures)))
 
 pub load-miss-spec : {M : Type 1} → statement M
 load-miss-spec =

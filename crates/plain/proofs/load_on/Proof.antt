@@ -24,14 +24,18 @@ hit-requires c κs = search needs
 
 returns : tie.Need-returns
 unfolding loadOn
-returns c = rw (← c .before .before .before .before .before .pre, lt-ltb _ _ (c .before .before .before .if1 .taken), c .hit .ensures, c .before .unpack .ensures)
+returns c =
+    let found = c .before .before .before in
+    rw (← found .before .before .pre, lt-ltb _ _ (found .if1 .taken), c .hit .ensures, c .before .unpack .ensures)
 
 load-miss-requires : tie.Need-load-miss-requires
 load-miss-requires c κs = search needs
 
 returns-2 : tie.Need-returns-2
 unfolding loadOn
-returns-2 c = rw (← c .before .before .before .before .before .before .before .pre, le-ltb _ _ (c .before .before .before .before .before .if1 .left)) (c .load-miss .ensures)
+returns-2 c =
+    let missing = c .before .before .before .before .before in
+    rw (← missing .before .before .pre, le-ltb _ _ (missing .if1 .left)) (c .load-miss .ensures)
 
 pub load-on-spec : {M : Type 1} → statement M
 load-on-spec =

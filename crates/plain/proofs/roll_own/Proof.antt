@@ -17,7 +17,8 @@ find-entry-requires c κs = search needs
 returns : tie.Need-returns
 unfolding rollOwn
 returns c =
-    let t = tentative-own _ _ _ _ _ (c .before .before .before .before .before .before .own-entry .ensures) (c .before .before .before .before .before .if1 .taken) in
+    let own = c .before .before .before .before .before in
+    let t = tentative-own _ _ _ _ _ (own .before .own-entry .ensures) (own .if1 .taken) in
     let r = c .before .before .rollback in
     (λ m l. rw (t .0, r .ensures .0, r .ensures .1), c .find-entry .ensures)
 

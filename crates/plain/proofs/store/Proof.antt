@@ -14,7 +14,9 @@ store-line-requires c κs = search needs
 
 returns : tie.Need-returns
 unfolding store
-returns c = rw (← c .before .before .before .before .before .before .before .before .roll-own .ensures .0 _ _, ← c .before .before .before .before .before .drop-normal .ensures _ _) (c .store-line .ensures)
+returns c =
+    let dropped = c .before .before .before .before .before in
+    rw (← dropped .before .before .before .roll-own .ensures .0 _ _, ← dropped .drop-normal .ensures _ _) (c .store-line .ensures)
 
 pub store-spec : {M : Type 1} → statement M
 store-spec =

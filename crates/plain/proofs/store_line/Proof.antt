@@ -30,7 +30,17 @@ store-through-requires c κs = search needs
 
 returns : tie.Need-returns
 unfolding storeLine
-returns c = rw (← c .before .before .before .before .before .before .before .before .before .before .before .home .ensures, ← (rw (c .before .before .before .before .before .before .before .before .before .unpack .ensures) at (c .before .before .before .before .before .before .before .before .holds .ensures)), c .before .before .before .before .before .before .before .if1 .taken, eq-eqb _ _ (rw (c .before .before .before .before .before .before .before .before .before .unpack .ensures) at (c .before .before .before .before .before .if2 .taken))) (c .store-through .ensures)
+returns c =
+    let state = c .before .before .before .before .before in
+    let line = state .before .before in
+    let u = line .before .before .unpack .ensures in
+    rw (
+      ← line .before .before .before .before .home .ensures,
+      ← (rw u at (line .before .holds .ensures)),
+      line .if1 .taken,
+      eq-eqb _ _ (rw u at (state .if2 .taken)),
+    )
+    (c .store-through .ensures)
 
 pack-requires : tie.Need-pack-requires
 pack-requires c κs = search needs
@@ -46,14 +56,32 @@ stored-requires c κs = search needs
 
 returns-2 : tie.Need-returns-2
 unfolding storeLine
-returns-2 c = rw (← c .before .before .before .before .before .before .before .before .home .ensures, ← (rw (c .before .before .before .before .before .before .unpack .ensures) at (c .before .before .before .before .before .holds .ensures)), c .before .before .before .before .if1 .taken, ne-eqb _ _ (rw (c .before .before .before .before .before .before .unpack .ensures) at (c .before .before .if2 .left)), c .before .pack .ensures, c .stored .ensures)
+returns-2 c =
+    let state = c .before .before in
+    let line = state .before .before in
+    let u = line .before .before .unpack .ensures in
+    rw (
+      ← line .before .before .before .before .home .ensures,
+      ← (rw u at (line .before .holds .ensures)),
+      line .if1 .taken,
+      ne-eqb _ _ (rw u at (state .if2 .left)),
+      c .before .pack .ensures,
+      c .stored .ensures,
+    )
 
 store-miss-requires : tie.Need-store-miss-requires
 store-miss-requires c κs = search needs
 
 returns-3 : tie.Need-returns-3
 unfolding storeLine
-returns-3 c = rw (← c .before .before .before .before .before .before .before .before .before .home .ensures, ← (rw (c .before .before .before .before .before .before .before .unpack .ensures) at (c .before .before .before .before .before .before .holds .ensures)), c .before .before .before .before .before .if1 .left) (c .store-miss .ensures)
+returns-3 c =
+    let line = c .before .before .before .before .before in
+    rw (
+      ← line .before .before .before .before .home .ensures,
+      ← (rw (line .before .before .unpack .ensures) at (line .before .holds .ensures)),
+      line .if1 .left,
+    )
+    (c .store-miss .ensures)
 
 pub store-line-spec : {M : Type 1} → statement M
 store-line-spec =

@@ -32,7 +32,16 @@ stored-alone-requires c κs = search needs
 
 returns : tie.Need-returns
 unfolding storeMiss
-returns c = rw (← c .before .before .before .before .before .before .before .before .before .before .home .ensures, ← c .before .before .before .before .before .before .before .clear .ensures .0, ← c .before .before .before .before .before .before .before .clear .ensures .1, ← c .before .before .before .before .before .before .before .clear .ensures .2) (rw (← c .before .before .plain-request .ensures) (rw (c .before .pack .ensures, c .stored-alone .ensures)))
+returns c =
+    let clear = c .before .before .before .before .before .before .before in
+    let cleared = clear .clear .ensures in
+    rw (
+      ← clear .before .before .before .home .ensures,
+      ← cleared .0,
+      ← cleared .1,
+      ← cleared .2,
+    )
+    (rw (← c .before .before .plain-request .ensures) (rw (c .before .pack .ensures, c .stored-alone .ensures)))
 
 pub store-miss-spec : {M : Type 1} → statement M
 store-miss-spec =

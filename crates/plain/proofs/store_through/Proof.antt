@@ -35,7 +35,9 @@ stored-through-requires c κs = search needs
 
 returns : tie.Need-returns
 unfolding storeThrough
-returns c = rw (← c .before .before .before .plain-request .ensures) (rw (← c .before .before .home .ensures, c .before .pack .ensures, c .stored-through .ensures))
+returns c =
+    rw (← c .before .before .before .plain-request .ensures)
+    (rw (← c .before .before .home .ensures, c .before .pack .ensures, c .stored-through .ensures))
 
 pub store-through-spec : {M : Type 1} → statement M
 store-through-spec =
