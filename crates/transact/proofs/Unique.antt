@@ -13,5 +13,6 @@ use Rattle.transact.proofs.transact.Reads as transact-reads
 
 pub transact-unique : (κs : Lfts 4) (a : ArgsD transact.signature κs) (r r' : ResD transact.signature κs)
     (s s' : AtExit (endedOf 4 transact-kinds.ps transact-kinds.r) κs) → transact-reads.Post κs a r s → transact-reads.Post κs a r' s' →
-    outcome r (caches (now (s .0)) (now (s .1 .0)) (now (s .1 .1 .0)) (now (s .1 .1 .1 .0))) ≡ outcome r' (caches (now (s' .0)) (now (s' .1 .0)) (now (s' .1 .1 .0)) (now (s' .1 .1 .1 .0)))
+    outcome r (caches (now (s .0)) (now (s .1 .0)) (now (s .1 .1 .0)) (now (s .1 .1 .1 .0))) ≡
+    outcome r' (caches (now (s' .0)) (now (s' .1 .0)) (now (s' .1 .1 .0)) (now (s' .1 .1 .1 .0)))
 transact-unique κs a r r' s s' p q = p ∙ sym q

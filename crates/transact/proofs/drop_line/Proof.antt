@@ -29,11 +29,24 @@ clear-requires c κs = search needs
 
 returns : tie.Need-returns
 unfolding dropLine
-returns c = λ e f. rw (← c .before .before .before .before .before .before .before .home .ensures, ← (rw (c .before .before .before .before .before .unpack .ensures) at (c .before .before .before .before .holds .ensures)), c .before .before .before .if1 .taken, ← c .clear .ensures .0, ← c .clear .ensures .1, ← c .clear .ensures .2)
+returns c =
+    let line = c .before .before .before in
+    let cleared = c .clear .ensures in
+    λ e f.
+    rw (
+      ← line .before .before .before .before .home .ensures,
+      ← (rw (line .before .before .unpack .ensures) at (line .before .holds .ensures)),
+      line .if1 .taken,
+      ← cleared .0,
+      ← cleared .1,
+      ← cleared .2,
+    )
 
 returns-2 : tie.Need-returns-2
 unfolding dropLine
-returns-2 c = λ e f. rw (← c .before .before .before .before .home .ensures, ← (rw (c .before .before .unpack .ensures) at (c .before .holds .ensures)), c .if1 .left)
+returns-2 c =
+    let held = rw (c .before .before .unpack .ensures) at (c .before .holds .ensures) in
+    λ e f. rw (← c .before .before .before .before .home .ensures, ← held, c .if1 .left)
 
 pub drop-line-spec : {M : Type 1} → statement M
 drop-line-spec =

@@ -32,7 +32,16 @@ finish-requires c κs = search needs
 
 returns : tie.Need-returns
 unfolding fill
-returns c = λ m l f. rw (← c .before .before .before .before .before .before .filled-state .ensures, ← c .before .before .before .before .before .pack .ensures, ← c .before .before .before .fill-backup .ensures, ← c .before .request-counts .ensures) (c .finish .ensures _ _ _)
+returns c =
+    let packed = c .before .before .before .before .before in
+    λ m l f.
+    rw (
+      ← packed .before .filled-state .ensures,
+      ← packed .pack .ensures,
+      ← c .before .before .before .fill-backup .ensures,
+      ← c .before .request-counts .ensures,
+    )
+    (c .finish .ensures _ _ _)
 
 pub fill-spec : {M : Type 1} → statement M
 fill-spec =

@@ -33,7 +33,9 @@ element-write-entries c = search needs
 
 returns : tie.Need-returns
 unfolding finish
-returns c = λ m l f. rw (eq-eqb _ _ (c .before .before .if1 .taken), c .pack .ensures, c .before .stored .ensures, c .before .before .before .unpack .ensures)
+returns c =
+    let store = c .before .before in
+    λ m l f. rw (eq-eqb _ _ (store .if1 .taken), c .pack .ensures, c .before .stored .ensures, store .before .unpack .ensures)
 
 returns-2 : tie.Need-returns-2
 unfolding finish

@@ -45,7 +45,14 @@ finish-requires-2 c κs = search needs
 
 returns-2 : tie.Need-returns-2
 unfolding hit
-returns-2 c = rw (ne-eqb _ _ (c .before .before .before .before .before .before .before .if1 .left), ne-eqb _ _ (rw (c .before .before .before .before .before .unpack .ensures) at (c .before .before .before .if2 .taken)), ← c .before .quiet-counts2 .ensures) (c .finish2 .ensures _ _ _)
+returns-2 c =
+    let state = c .before .before .before in
+    rw (
+      ne-eqb _ _ (state .before .before .before .before .if1 .left),
+      ne-eqb _ _ (rw (state .before .before .unpack .ensures) at (state .if2 .taken)),
+      ← c .before .quiet-counts2 .ensures,
+    )
+    (c .finish2 .ensures _ _ _)
 
 request-requires : tie.Need-request-requires
 request-requires c κs = search needs
@@ -61,8 +68,25 @@ aborted-requires c κs = search needs
 
 returns-3 : tie.Need-returns-3
 unfolding hit
-returns-3 c = let k = refused _ _ _ _ (c .before .before .before .before .before .before .request .ensures .1 []) (c .before .before .before .before .before .if3 .taken) in
-    rw (ne-eqb _ _ (c .before .before .before .before .before .before .before .before .before .before .before .before .before .before .if1 .left), eq-eqb _ _ (rw (c .before .before .before .before .before .before .before .before .before .before .before .before .unpack .ensures) at (c .before .before .before .before .before .before .before .before .before .before .if2 .left)), ← c .before .before .before .before .before .before .request .ensures .0, c .before .before .before .before .before .if3 .taken, c .aborted .ensures, c .before .upgrade-counts .ensures, c .before .before .rollback .ensures .0, c .before .before .rollback .ensures .1, ap (λ (s : Caches). s .memory) k, ap (λ (s : Caches). s .lines) k, ap (λ (s : Caches). s .entries) k)
+returns-3 c =
+    let asked = c .before .before .before .before .before in
+    let answer = asked .before .request .ensures in
+    let state = asked .before .before .before .before .before in
+    let rolled = c .before .before .rollback .ensures in
+    let k = refused _ _ _ _ (answer .1 []) (asked .if3 .taken) in
+    rw (
+      ne-eqb _ _ (state .before .before .before .before .if1 .left),
+      eq-eqb _ _ (rw (state .before .before .unpack .ensures) at (state .if2 .left)),
+      ← answer .0,
+      asked .if3 .taken,
+      c .aborted .ensures,
+      c .before .upgrade-counts .ensures,
+      rolled .0,
+      rolled .1,
+      ap (λ (s : Caches). s .memory) k,
+      ap (λ (s : Caches). s .lines) k,
+      ap (λ (s : Caches). s .entries) k,
+    )
 
 with-state-requires : tie.Need-with-state-requires
 with-state-requires c κs = search needs
@@ -84,10 +108,22 @@ finish-requires-3 c κs = search needs
 
 returns-4 : tie.Need-returns-4
 unfolding hit
-returns-4 c = let x = c .before .before .before .before .before .before .before .before .before .before .before .before .before .before .before .args in
-    let k = rw (c .before .before .before .before .with-state .ensures, c .before .before .before .before .before .before .before .before .before .before .before .before .unpack .ensures) at (c .before .before .before .pack .ensures) in
-    let s = passed _ _ _ _ (c .before .before .before .before .before .before .request .ensures .1 (now (x .flags))) (c .before .before .before .before .before .if3 .left) in
-    rw (ne-eqb _ _ (c .before .before .before .before .before .before .before .before .before .before .before .before .before .before .if1 .left), eq-eqb _ _ (rw (c .before .before .before .before .before .before .before .before .before .before .before .before .unpack .ensures) at (c .before .before .before .before .before .before .before .before .before .before .if2 .left)), ← c .before .before .before .before .before .before .request .ensures .0, c .before .before .before .before .before .if3 .left, ← c .before .upgrade-counts2 .ensures) (rw (← s, ← k) (c .finish3 .ensures _ _ _))
+returns-4 c =
+    let asked = c .before .before .before .before .before in
+    let answer = asked .before .request .ensures in
+    let state = asked .before .before .before .before .before in
+    let u = state .before .before .unpack .ensures in
+    let x = state .before .before .before .before .before .args in
+    let k = rw (c .before .before .before .before .with-state .ensures, u) at (c .before .before .before .pack .ensures) in
+    let s = passed _ _ _ _ (answer .1 (now (x .flags))) (asked .if3 .left) in
+    rw (
+      ne-eqb _ _ (state .before .before .before .before .if1 .left),
+      eq-eqb _ _ (rw u at (state .if2 .left)),
+      ← answer .0,
+      asked .if3 .left,
+      ← c .before .upgrade-counts2 .ensures,
+    )
+    (rw (← s, ← k) (c .finish3 .ensures _ _ _))
 
 pub hit-spec : {M : Type 1} → statement M
 hit-spec =

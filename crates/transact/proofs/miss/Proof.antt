@@ -12,7 +12,9 @@ miss-at-requires c κs = search needs
 
 returns : tie.Need-returns
 unfolding miss
-returns c = rw (← c .before .before .before .before .before .before .free-slot .ensures, lt-ltb _ _ (c .before .before .before .before .before .if1 .taken)) (c .miss-at .ensures)
+returns c =
+    let free = c .before .before .before .before .before in
+    rw (← free .before .free-slot .ensures, lt-ltb _ _ (free .if1 .taken)) (c .miss-at .ensures)
 
 rollback-requires : tie.Need-rollback-requires
 rollback-requires c κs = search needs
@@ -25,7 +27,17 @@ aborted-requires c κs = search needs
 
 returns-2 : tie.Need-returns-2
 unfolding miss
-returns-2 c = rw (← c .before .before .before .before .before .before .free-slot .ensures, le-ltb _ _ (c .before .before .before .before .before .if1 .left), c .aborted .ensures, c .before .quiet-counts .ensures, ← c .before .before .rollback .ensures .0, ← c .before .before .rollback .ensures .1)
+returns-2 c =
+    let full = c .before .before .before .before .before in
+    let rolled = c .before .before .rollback .ensures in
+    rw (
+      ← full .before .free-slot .ensures,
+      le-ltb _ _ (full .if1 .left),
+      c .aborted .ensures,
+      c .before .quiet-counts .ensures,
+      ← rolled .0,
+      ← rolled .1,
+    )
 
 pub miss-spec : {M : Type 1} → statement M
 miss-spec =

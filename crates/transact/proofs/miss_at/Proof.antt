@@ -29,7 +29,12 @@ request-requires c κs = search needs
 
 returns : tie.Need-returns
 unfolding missAt
-returns c = rw (← c .before .before .before .before .before .before .before .before .before .before .clear .ensures .0, ← c .before .before .before .before .before .before .before .before .before .before .clear .ensures .1, ← c .before .before .before .before .before .before .before .before .before .before .clear .ensures .2) (rw (← c .before .before .before .before .before .before .before .before .free-slot .ensures) (rw (← c .before .before .before .before .before .clear-backup .ensures _ _) (c .request .ensures)))
+returns c =
+    let backed = c .before .before .before .before .before in
+    let free = backed .before .before .before in
+    let cleared = free .before .before .clear .ensures in
+    rw (← cleared .0, ← cleared .1, ← cleared .2)
+    (rw (← free .free-slot .ensures) (rw (← backed .clear-backup .ensures _ _) (c .request .ensures)))
 
 pub miss-at-spec : {M : Type 1} → statement M
 miss-at-spec =

@@ -66,7 +66,23 @@ write-back-requires c κs = search needs
 
 returns : tie.Need-returns
 unfolding openNormal
-returns c = λ l f. rw (← c .before .before .before .before .before .before .before .before .before .free-slot .ensures, lt-ltb _ _ (c .before .before .before .before .before .before .before .if1 .taken), c .before .before .pack2 .ensures, c .before .before .before .pack .ensures, c .before .before .before .before .with-tag2 .ensures, c .before .before .before .before .before .before .before .before .before .before .before .with-tag .ensures, c .before .before .before .before .before .before .before .before .before .before .before .before .unpack .ensures, c .write-back .ensures .0, c .write-back .ensures .1, c .before .before .before .before .before .unpack2 .ensures)
+returns c =
+    let free = c .before .before .before .before .before .before .before in
+    let tagged = free .before .before .before .before in
+    let written = c .write-back .ensures in
+    λ l f.
+    rw (
+      ← free .before .before .free-slot .ensures,
+      lt-ltb _ _ (free .if1 .taken),
+      c .before .before .pack2 .ensures,
+      c .before .before .before .pack .ensures,
+      c .before .before .before .before .with-tag2 .ensures,
+      tagged .with-tag .ensures,
+      tagged .before .unpack .ensures,
+      written .0,
+      written .1,
+      c .before .before .before .before .before .unpack2 .ensures,
+    )
 
 written-state-requires : tie.Need-written-state-requires
 written-state-requires c κs = search needs
@@ -88,7 +104,22 @@ write-back-requires-2 c κs = search needs
 
 returns-2 : tie.Need-returns-2
 unfolding openNormal
-returns-2 c = λ l f. rw (← c .before .before .before .before .before .before .before .free-slot .ensures, le-ltb _ _ (c .before .before .before .before .before .if1 .left), c .before .before .pack3 .ensures, c .before .before .before .with-state .ensures, c .before .before .before .before .before .before .before .before .before .with-tag .ensures, c .before .before .before .before .written-state .ensures, c .write-back2 .ensures .0, c .write-back2 .ensures .1, c .before .before .before .before .before .before .before .before .before .before .unpack .ensures)
+returns-2 c =
+    let full = c .before .before .before .before .before in
+    let tagged = full .before .before .before .before in
+    let written = c .write-back2 .ensures in
+    λ l f.
+    rw (
+      ← full .before .before .free-slot .ensures,
+      le-ltb _ _ (full .if1 .left),
+      c .before .before .pack3 .ensures,
+      c .before .before .before .with-state .ensures,
+      tagged .with-tag .ensures,
+      c .before .before .before .before .written-state .ensures,
+      written .0,
+      written .1,
+      tagged .before .unpack .ensures,
+    )
 
 pub open-normal-spec : {M : Type 1} → statement M
 open-normal-spec =

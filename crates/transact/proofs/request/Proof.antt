@@ -25,8 +25,23 @@ aborted-requires c κs = search needs
 
 returns : tie.Need-returns
 unfolding request
-returns c = let k = refused _ _ _ _ (c .before .before .before .before .before .before .request .ensures .1 []) (c .before .before .before .before .before .if1 .taken) in
-    rw (c .aborted .ensures, c .before .request-counts .ensures, ← c .before .before .before .before .before .before .before .before .before .before .request-of .ensures, ← c .before .before .before .before .before .before .request .ensures .0, c .before .before .before .before .before .if1 .taken, c .before .before .rollback .ensures .0, c .before .before .rollback .ensures .1, ap (λ (s : Caches). s .memory) k, ap (λ (s : Caches). s .lines) k, ap (λ (s : Caches). s .entries) k)
+returns c =
+    let asked = c .before .before .before .before .before in
+    let answer = asked .before .request .ensures in
+    let rolled = c .before .before .rollback .ensures in
+    let k = refused _ _ _ _ (answer .1 []) (asked .if1 .taken) in
+    rw (
+      c .aborted .ensures,
+      c .before .request-counts .ensures,
+      ← asked .before .before .before .before .before .request-of .ensures,
+      ← answer .0,
+      asked .if1 .taken,
+      rolled .0,
+      rolled .1,
+      ap (λ (s : Caches). s .memory) k,
+      ap (λ (s : Caches). s .lines) k,
+      ap (λ (s : Caches). s .entries) k,
+    )
 
 mul-supplied : tie.Need-mul-supplied
 mul-supplied c = search needs
@@ -39,9 +54,12 @@ fill-requires c κs = search needs
 
 returns-2 : tie.Need-returns-2
 unfolding request
-returns-2 c = let x = c .before .before .before .before .before .before .before .before .before .args in
-    let k = passed _ _ _ _ (c .before .before .before .before .request .ensures .1 (now (x .flags))) (c .before .before .before .if1 .left) in
-    rw (← c .before .before .before .before .before .before .before .before .request-of .ensures, ← c .before .before .before .before .request .ensures .0, c .before .before .before .if1 .left) (rw (← k) (c .fill .ensures _ _ _))
+returns-2 c =
+    let asked = c .before .before .before in
+    let answer = asked .before .request .ensures in
+    let x = asked .before .before .before .before .before .before .args in
+    let k = passed _ _ _ _ (answer .1 (now (x .flags))) (asked .if1 .left) in
+    rw (← asked .before .before .before .before .before .request-of .ensures, ← answer .0, asked .if1 .left) (rw (← k) (c .fill .ensures _ _ _))
 
 pub request-spec : {M : Type 1} → statement M
 request-spec =

@@ -14,7 +14,8 @@ hit-requires c κs = search needs
 returns : tie.Need-returns
 unfolding seek
 returns c =
-    let t = tentative-own _ _ _ _ _ (c .before .before .before .before .before .before .own-entry .ensures) (c .before .before .before .before .before .if1 .taken) in
+    let own = c .before .before .before .before .before in
+    let t = tentative-own _ _ _ _ _ (own .before .own-entry .ensures) (own .if1 .taken) in
     rw (t .0, t .1) (c .hit .ensures)
 
 open-normal-requires : tie.Need-open-normal-requires
@@ -26,8 +27,10 @@ hit-requires-2 c κs = search needs
 returns-2 : tie.Need-returns-2
 unfolding seek
 returns-2 c =
-    let t = normal-own _ _ _ _ _ (c .before .before .before .before .before .before .before .before .before .before .before .own-entry .ensures) (c .before .before .before .before .before .before .before .before .before .before .if1 .left) in
-    rw (t .0, t .1, lt-ltb _ _ (c .before .before .before .before .before .before .before .before .if2 .taken), ← c .before .before .before .before .before .open-normal .ensures _ _) (c .hit2 .ensures)
+    let found = c .before .before .before .before .before .before .before .before in
+    let own = found .before .before in
+    let t = normal-own _ _ _ _ _ (own .before .own-entry .ensures) (own .if1 .left) in
+    rw (t .0, t .1, lt-ltb _ _ (found .if2 .taken), ← c .before .before .before .before .before .open-normal .ensures _ _) (c .hit2 .ensures)
 
 miss-requires : tie.Need-miss-requires
 miss-requires c κs = search needs
@@ -35,8 +38,10 @@ miss-requires c κs = search needs
 returns-3 : tie.Need-returns-3
 unfolding seek
 returns-3 c =
-    let t = normal-own _ _ _ _ _ (c .before .before .before .before .before .before .before .before .own-entry .ensures) (c .before .before .before .before .before .before .before .if1 .left) in
-    rw (t .0, t .1, le-ltb _ _ (c .before .before .before .before .before .if2 .left)) (c .miss .ensures)
+    let missing = c .before .before .before .before .before in
+    let own = missing .before .before in
+    let t = normal-own _ _ _ _ _ (own .before .own-entry .ensures) (own .if1 .left) in
+    rw (t .0, t .1, le-ltb _ _ (missing .if2 .left)) (c .miss .ensures)
 
 pub seek-spec : {M : Type 1} → statement M
 seek-spec =

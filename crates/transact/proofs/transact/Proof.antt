@@ -31,7 +31,9 @@ seek-requires c κs = search needs
 
 returns-2 : tie.Need-returns-2
 unfolding transact
-returns-2 c = rw (ne-eqb _ _ (c .before .before .before .before .before .before .before .before .if1 .left), ← c .before .before .before .before .before .drop-line .ensures _ _) (c .seek .ensures)
+returns-2 c =
+    let dropped = c .before .before .before .before .before in
+    rw (ne-eqb _ _ (dropped .before .before .before .if1 .left), ← dropped .drop-line .ensures _ _) (c .seek .ensures)
 
 pub transact-spec : {M : Type 1} → statement M
 transact-spec =
