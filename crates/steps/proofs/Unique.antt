@@ -15,11 +15,13 @@ use Rattle.steps.proofs.take_step.Kinds as take-step-kinds
 use Rattle.steps.proofs.take_step.Reads as take-step-reads
 
 pub step-refusal-unique : (κs : Lfts 0) (a : ArgsD step-refusal.signature κs) (r r' : ResD step-refusal.signature κs)
-    (s s' : AtExit (endedOf 0 step-refusal-kinds.ps step-refusal-kinds.r) κs) → step-refusal-reads.Post κs a r s → step-refusal-reads.Post κs a r' s' →
+    (s s' : AtExit (endedOf 0 step-refusal-kinds.ps step-refusal-kinds.r) κs) →
+    step-refusal-reads.Post κs a r s → step-refusal-reads.Post κs a r' s' →
     r ≡ r'
 step-refusal-unique κs a r r' s s' p q = p ∙ sym q
 
 pub take-step-unique : (κs : Lfts 4) (a : ArgsD take-step.signature κs) (r r' : ResD take-step.signature κs)
     (s s' : AtExit (endedOf 4 take-step-kinds.ps take-step-kinds.r) κs) → take-step-reads.Post κs a r s → take-step-reads.Post κs a r' s' →
-    outcome r (caches (now (s .0)) (now (s .1 .0)) (now (s .1 .1 .0)) (now (s .1 .1 .1 .0))) ≡ outcome r' (caches (now (s' .0)) (now (s' .1 .0)) (now (s' .1 .1 .0)) (now (s' .1 .1 .1 .0)))
+    outcome r (caches (now (s .0)) (now (s .1 .0)) (now (s .1 .1 .0)) (now (s .1 .1 .1 .0))) ≡
+    outcome r' (caches (now (s' .0)) (now (s' .1 .0)) (now (s' .1 .1 .0)) (now (s' .1 .1 .1 .0)))
 take-step-unique κs a r r' s s' p q = p ∙ sym q

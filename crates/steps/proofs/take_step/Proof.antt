@@ -74,8 +74,19 @@ returns-9 c = rw (c .before .before .before .match .keys9) (c .interrupt .ensure
 returns-10 : tie.Need-returns-10
 unfolding takeStep
 returns-10 c =
-    let r = c .before .match .rest in rw
-    (ne-eqb _ _ (r .0 .0 .0 .0 .0 .0 .0 .0 .1), ne-eqb _ _ (r .0 .0 .0 .0 .0 .0 .0 .1), ne-eqb _ _ (r .0 .0 .0 .0 .0 .0 .1), ne-eqb _ _ (r .0 .0 .0 .0 .0 .1), ne-eqb _ _ (r .0 .0 .0 .0 .1), ne-eqb _ _ (r .0 .0 .0 .1), ne-eqb _ _ (r .0 .0 .1), ne-eqb _ _ (r .0 .1), ne-eqb _ _ (r .1), c .no-such-step .ensures)
+    let r = c .before .match .rest in
+    rw (
+      ne-eqb _ _ (r .0 .0 .0 .0 .0 .0 .0 .0 .1),
+      ne-eqb _ _ (r .0 .0 .0 .0 .0 .0 .0 .1),
+      ne-eqb _ _ (r .0 .0 .0 .0 .0 .0 .1),
+      ne-eqb _ _ (r .0 .0 .0 .0 .0 .1),
+      ne-eqb _ _ (r .0 .0 .0 .0 .1),
+      ne-eqb _ _ (r .0 .0 .0 .1),
+      ne-eqb _ _ (r .0 .0 .1),
+      ne-eqb _ _ (r .0 .1),
+      ne-eqb _ _ (r .1),
+      c .no-such-step .ensures,
+    )
 
 pub take-step-spec : {M : Type 1} → statement M
 take-step-spec =
