@@ -48,12 +48,14 @@ returns-3 c =
     let c2 = c1 .before in
     let c3 = c2 .before .before in
     let c4 = c3 .before in
+    let fits = sound-fit _ _ (sym (c4 .sound .ensures) ∙ not-false (c4 .sound .result) (c3 .if1 .left)) in
+    let low = low-word _ _ _ _ _ _ (sym (c2 .step-refusal .ensures) ∙ c1 .if2 .left) (fits .words) in
     rw (
       ← c4 .sound .ensures,
       not-false (c4 .sound .result) (c3 .if1 .left),
       ← c2 .step-refusal .ensures,
       eq-eqb _ _ (c1 .if2 .left),
-      ← (c .take-step .ensures ∙ low-word _ _ _ _ _ _ (sym (c2 .step-refusal .ensures) ∙ c1 .if2 .left) (sound-fit _ _ (sym (c4 .sound .ensures) ∙ not-false (c4 .sound .result) (c3 .if1 .left)) .words)),
+      ← (c .take-step .ensures ∙ low),
     )
 
 pub step-spec : {M : Type 1} → statement M

@@ -35,12 +35,25 @@ loop-less c = search needs
 
 loop-again : tie.Need-loop-again Inv-loop μ-loop
 loop-again c =
-    (search needs, rw (c .before .loop .inv .1) (set-past (replicate 8 0) (padded 8 (take (c .before .loop .p) (replicate (c .before .before .args .processors) 1))) (c .before .loop .p) 1 ∙ ap (λ (l : List ℕ). replicate 8 0 ++ l) (ap (λ (z : ℕ). set (padded 8 (take (c .before .loop .p) (replicate (c .before .before .args .processors) 1))) (c .before .loop .p) z) (sym (getD-replicate {A = ℕ} (c .before .before .args .processors) (c .before .loop .p) 1 0 (search needs))) ∙ (pad-turn 8 (c .before .loop .p) (replicate (c .before .before .args .processors) 1) (omega (arith, length-replicate {A = ℕ} (c .before .before .args .processors) 1, c .loop-test)) (omega (arith, length-replicate {A = ℕ} (c .before .before .args .processors) 1, c .before .before .pre))))))
+    let s = c .before .loop in
+    let n = c .before .before .args .processors in
+    let ones : List ℕ = replicate n 1 in
+    let all = length-replicate {A = ℕ} n 1 in
+    let told = padded 8 (take (s .p) ones) in (
+      search needs,
+      rw (s .inv .1)
+      (set-past (replicate 8 0) told (s .p) 1 ∙
+      ap (λ (l : List ℕ). replicate 8 0 ++ l)
+      (ap (λ (z : ℕ). set told (s .p) z) (sym (getD-replicate {A = ℕ} n (s .p) 1 0 (search needs))) ∙
+      (pad-turn 8 (s .p) ones (omega (arith, all, c .loop-test)) (omega (arith, all, c .before .before .pre))))),
+    )
 
 returns : tie.Need-returns Inv-loop μ-loop
 returns c =
-    c .before .loop .inv .1 ∙ ap (λ (l : List ℕ). replicate 8 0 ++ padded 8 l)
-    (take-all (c .before .loop .p) (replicate (c .before .before .args .processors) 1) (omega (arith, length-replicate {A = ℕ} (c .before .before .args .processors) 1, c .loop-test)))
+    let s = c .before .loop in
+    let n = c .before .before .args .processors in
+    s .inv .1 ∙ ap (λ (l : List ℕ). replicate 8 0 ++ padded 8 l)
+    (take-all (s .p) (replicate n 1) (omega (arith, length-replicate {A = ℕ} n 1, c .loop-test)))
 
 pub fresh-flags-spec : {M : Type 1} → statement M
 fresh-flags-spec =

@@ -38,8 +38,9 @@ loop-less c = search needs
 
 loop-again : tie.Need-loop-again Inv-loop μ-loop
 loop-again c =
+    let s = c .before .before .loop in
     let c1 = c .before .before .before in
-    (search needs, rw (c .before .before .loop .inv .1) (pad-turn 256 (c .before .before .loop .i) (c1 .args .memory .now) (search needs) (search needs)))
+    (search needs, rw (s .inv .1) (pad-turn 256 (s .i) (c1 .args .memory .now) (search needs) (search needs)))
 
 returns : tie.Need-returns Inv-loop μ-loop
 returns c = c .before .loop .inv .1 ∙ ap (padded 256) (take-all (c .before .loop .i) (c .before .before .args .memory .now) (search needs))

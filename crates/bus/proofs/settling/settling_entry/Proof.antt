@@ -45,7 +45,8 @@ loop-less c = search needs
 loop-again : tie.Need-loop-again Inv-loop μ-loop
 loop-again c =
     let c1 = c .before .before .before .before .before in
-    (search needs, sym (first-miss _ _ _ (search needs) (sym (rw (c .before .before .unpack .ensures) at (c .before .is-settling .ensures)) ∙ c .if2 .left)) ∙ c1 .loop .inv .1)
+    let settles = rw (c .before .before .unpack .ensures) at (c .before .is-settling .ensures) in
+    (search needs, sym (first-miss _ _ _ (search needs) (sym settles ∙ c .if2 .left)) ∙ c1 .loop .inv .1)
 
 returns : tie.Need-returns Inv-loop μ-loop
 returns c = (omega arith) ∙ sym (first-end _ _ _ (search needs)) ∙ c .before .loop .inv .1
