@@ -14,5 +14,24 @@ use Rattle.runs.proofs.run.Reads as run-reads
 
 pub run-unique : (κs : Lfts 12) (a : ArgsD run.signature κs) (r r' : ResD run.signature κs)
     (s s' : AtExit (endedOf 12 run-kinds.ps run-kinds.r) κs) → run-reads.Post κs a r s → run-reads.Post κs a r' s' →
-    leftBy r (columns (now (s .1 .1 .1 .1 .1 .0)) (now (s .1 .1 .1 .1 .1 .1 .0)) (now (s .1 .1 .1 .1 .1 .1 .1 .0)) (now (s .1 .1 .1 .1 .1 .1 .1 .1 .0)) (now (s .1 .1 .1 .1 .1 .1 .1 .1 .1 .0)) (now (s .1 .1 .1 .1 .1 .1 .1 .1 .1 .1 .0)) (now (s .1 .1 .1 .1 .1 .1 .1 .1 .1 .1 .1 .0)) (now (s .1 .1 .1 .1 .1 .1 .1 .1 .1 .1 .1 .1 .0))) ≡ leftBy r' (columns (now (s' .1 .1 .1 .1 .1 .0)) (now (s' .1 .1 .1 .1 .1 .1 .0)) (now (s' .1 .1 .1 .1 .1 .1 .1 .0)) (now (s' .1 .1 .1 .1 .1 .1 .1 .1 .0)) (now (s' .1 .1 .1 .1 .1 .1 .1 .1 .1 .0)) (now (s' .1 .1 .1 .1 .1 .1 .1 .1 .1 .1 .0)) (now (s' .1 .1 .1 .1 .1 .1 .1 .1 .1 .1 .1 .0)) (now (s' .1 .1 .1 .1 .1 .1 .1 .1 .1 .1 .1 .1 .0)))
+    leftBy r
+    (columns
+    (now (s .1 .1 .1 .1 .1 .0))
+    (now (s .1 .1 .1 .1 .1 .1 .0))
+    (now (s .1 .1 .1 .1 .1 .1 .1 .0))
+    (now (s .1 .1 .1 .1 .1 .1 .1 .1 .0))
+    (now (s .1 .1 .1 .1 .1 .1 .1 .1 .1 .0))
+    (now (s .1 .1 .1 .1 .1 .1 .1 .1 .1 .1 .0))
+    (now (s .1 .1 .1 .1 .1 .1 .1 .1 .1 .1 .1 .0))
+    (now (s .1 .1 .1 .1 .1 .1 .1 .1 .1 .1 .1 .1 .0))) ≡
+    leftBy r'
+    (columns
+    (now (s' .1 .1 .1 .1 .1 .0))
+    (now (s' .1 .1 .1 .1 .1 .1 .0))
+    (now (s' .1 .1 .1 .1 .1 .1 .1 .0))
+    (now (s' .1 .1 .1 .1 .1 .1 .1 .1 .0))
+    (now (s' .1 .1 .1 .1 .1 .1 .1 .1 .1 .0))
+    (now (s' .1 .1 .1 .1 .1 .1 .1 .1 .1 .1 .0))
+    (now (s' .1 .1 .1 .1 .1 .1 .1 .1 .1 .1 .1 .0))
+    (now (s' .1 .1 .1 .1 .1 .1 .1 .1 .1 .1 .1 .1 .0)))
 run-unique κs a r r' s s' p q = p ∙ sym q

@@ -54,7 +54,9 @@ returns-2 c =
 
 run-sound-requires : tie.Need-run-sound-requires
 run-sound-requires c κs =
-    let c1 = c .before .before .before .before .before .before .before .before .before .before .before .before .before .before .before .before .before .before .before .before .before .before .before .before .before .before .before in
+    let moved = c .before .before .before .before .before .before .before .before .before .before .before .before in
+    let ok = moved .before .before .before .before .before in
+    let c1 = ok .before .before .before .before .before .before .before .before .before .before in
     let c2 = c1 .before in
     sound-fit _ _ (sym (c2 .sound .ensures) ∙ not-false (c2 .sound .result) (c1 .if1 .left)) .words
 
@@ -86,7 +88,8 @@ returns-3 : tie.Need-returns-3
 unfolding runOf
 returns-3 c =
     let c1 = c .before .before .before .before .before .before .before .before .before .before .before .before .before .before .before .before in
-    let c2 = c1 .before .before .before .before .before .before .before .before .before .before .before .before .before .before .before .before .before .before in
+    let moved = c1 .before .before .before .before .before .before .before .before .before .before .before .before .before in
+    let c2 = moved .before .before .before .before .before in
     let c3 = c2 .before in
     let c4 = c3 .before .before .before .before .before .before .before .before .before in
     let c5 = c4 .before in

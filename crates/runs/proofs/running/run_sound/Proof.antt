@@ -12,10 +12,19 @@ use Rattle.runs.proofs.running.run_sound.Statement.{statement}
 use Rattle.runs.proofs.running.run_sound.Tie as tie
 
 abbrev Inv-loop : tie.InvT-loop
-Inv-loop memory₀ lines₀ entries₀ flags₀ d ops cores words values answers₀ results₀ read₀ rfo₀ write₀ t-read₀ t-rfo₀ busy₀ n i₀ memory lines entries flags answers results read rfo write t-read t-rfo busy i = (i ≤ length ops) × (untilRange (stopsAt d (steps ops cores words values)) (turn d (steps ops cores words values)) i (length ops - i) (carried (caches memory lines entries flags) (columns answers results read rfo write t-read t-rfo busy)) ≡ untilRange (stopsAt d (steps ops cores words values)) (turn d (steps ops cores words values)) 0 (length ops) (carried (caches memory₀ lines₀ entries₀ flags₀) (columns answers₀ results₀ read₀ rfo₀ write₀ t-read₀ t-rfo₀ busy₀))) × SameLengths (columns answers results read rfo write t-read t-rfo busy) (columns answers₀ results₀ read₀ rfo₀ write₀ t-read₀ t-rfo₀ busy₀)
+Inv-loop memory₀ lines₀ entries₀ flags₀ d ops cores words values answers₀ results₀ read₀ rfo₀ write₀ t-read₀ t-rfo₀ busy₀ n i₀
+    memory lines entries flags answers results read rfo write t-read t-rfo busy i =
+    (i ≤ length ops) ×
+    (untilRange (stopsAt d (steps ops cores words values)) (turn d (steps ops cores words values)) i (length ops - i)
+    (carried (caches memory lines entries flags) (columns answers results read rfo write t-read t-rfo busy)) ≡
+    untilRange (stopsAt d (steps ops cores words values)) (turn d (steps ops cores words values)) 0 (length ops)
+    (carried (caches memory₀ lines₀ entries₀ flags₀) (columns answers₀ results₀ read₀ rfo₀ write₀ t-read₀ t-rfo₀ busy₀))) ×
+    SameLengths (columns answers results read rfo write t-read t-rfo busy) (columns answers₀ results₀ read₀ rfo₀ write₀ t-read₀ t-rfo₀ busy₀)
 
 abbrev μ-loop : tie.MeasureT-loop
-μ-loop memory₀ lines₀ entries₀ flags₀ d ops cores words values answers₀ results₀ read₀ rfo₀ write₀ t-read₀ t-rfo₀ busy₀ n i₀ memory lines entries flags answers results read rfo write t-read t-rfo busy i = length ops - i
+μ-loop memory₀ lines₀ entries₀ flags₀ d ops cores words values answers₀ results₀ read₀ rfo₀ write₀ t-read₀ t-rfo₀ busy₀ n i₀
+    memory lines entries flags answers results read rfo write t-read t-rfo busy i =
+    length ops - i
 
 loop-holds : tie.Need-loop-holds Inv-loop μ-loop
 loop-holds c = (search needs, rw sub-zero, same-refl _)
@@ -78,22 +87,27 @@ one-step-requires : tie.Need-one-step-requires Inv-loop μ-loop
 one-step-requires c κs =
     let c1 = c .before .before .before .before .before in
     let c2 = c1 .before in
-    let c3 = c2 .before .before .before .before .before .before .before .before .before .before .before .before .before .before .before .before .before .before in
-    (sym (c2 .step-refusal .ensures) ∙ c1 .if1 .left, c3 .pre)
+    let reached = c2 .before .before .before .before .before in
+    let start = reached .before .before .before .before .before .before .before .before .before .before .before .before .before in
+    (sym (c2 .step-refusal .ensures) ∙ c1 .if1 .left, start .pre)
 
 write-answer-requires : tie.Need-write-answer-requires Inv-loop μ-loop
 write-answer-requires c κs = search needs
 
 add-i : tie.Need-add-i Inv-loop μ-loop
 add-i c =
-    let c1 = c .before .before .before .before .before .before .before .before .before .before .before .before .before .before .before .before .before .before .before .before .before .before .before .before .before .before .before .before .before .before .before .before .before .before .before .before in
-    let c2 = c1 .before .before .before .before .before .before .before .before .before .before .before .before .before .before in
-    omega (arith, c1 .loop-test, c2 .good)
+    let written = c .before .before .before .before .before .before .before .before .before .before .before .before .before .before .before .before in
+    let stepped = written .before .before .before .before .before .before .before .before .before in
+    let inside = stepped .before .before .before .before .before .before .before .before .before .before .before in
+    let start = inside .before .before .before .before .before .before .before .before .before .before .before .before .before .before in
+    omega (arith, inside .loop-test, start .good)
 
 loop-less : tie.Need-loop-less Inv-loop μ-loop
 loop-less c =
-    let c1 = c .before .before .before .before .before .before .before .before .before .before .before .before .before .before .before .before .before .before .before .before .before .before .before .before .before .before .before .before .before .before .before .before .before .before .before .before in
-    omega (arith, c1 .loop-test)
+    let written = c .before .before .before .before .before .before .before .before .before .before .before .before .before .before .before .before in
+    let stepped = written .before .before .before .before .before .before .before .before .before in
+    let inside = stepped .before .before .before .before .before .before .before .before .before .before .before in
+    omega (arith, inside .loop-test)
 
 loop-again : tie.Need-loop-again Inv-loop μ-loop
 loop-again c =
@@ -108,8 +122,14 @@ loop-again c =
     let c9 = c8 .before in
     let c10 = c9 .before in
     let c11 = c10 .before .before .before .before .before .before .before .before .before .before .before .before .before in
-    let x = c11 .args in
-    (omega (arith, c9 .loop-test), takes-turn (x .d) (steps (x .ops .now) (x .cores .now) (x .words .now) (x .values .now)) (c10 .loop .i) (length (x .ops .now)) _ _ (c10 .loop .inv .1) (omega (arith, c9 .loop-test)) _ _ _ _ (c8 .byte-at .ensures) (c7 .byte-at2 .ensures) (c6 .number-at .ensures) (c5 .step-refusal .ensures) (c4 .if1 .left) _ (c2 .one-step .result) _ _ (c3 .number-at2 .ensures) (c2 .one-step .ensures) (c1 .write-answer .ensures), written-same _ _ _ (c10 .loop .i) (c2 .one-step .result) (c1 .write-answer .ensures) (c10 .loop .inv .2))
+    let x = c11 .args in (
+      omega (arith, c9 .loop-test),
+      takes-turn (x .d) (steps (x .ops .now) (x .cores .now) (x .words .now) (x .values .now)) (c10 .loop .i) (length (x .ops .now)) _ _
+      (c10 .loop .inv .1) (omega (arith, c9 .loop-test)) _ _ _ _ (c8 .byte-at .ensures) (c7 .byte-at2 .ensures) (c6 .number-at .ensures)
+      (c5 .step-refusal .ensures) (c4 .if1 .left) _ (c2 .one-step .result) _ _ (c3 .number-at2 .ensures) (c2 .one-step .ensures)
+      (c1 .write-answer .ensures),
+      written-same _ _ _ (c10 .loop .i) (c2 .one-step .result) (c1 .write-answer .ensures) (c10 .loop .inv .2),
+    )
 
 same-length-9 : tie.Need-same-length-9 Inv-loop μ-loop
 same-length-9 c = c .before .loop .inv .2 .answers
