@@ -46,12 +46,12 @@ loop-again c =
     let c1 = c .before .before .before .before in (
       search needs,
       sym
-      (first-miss _ _ _ (search needs)
-      (⊎-elim
-      (λ w. rw (ne-eqb _ _ (w .0 .taken), ← c .before .tag-of .ensures, w .1 .left))
-      (λ w. rw (eq-eqb _ _ (w .left)))
-      (c .if2 .came))) ∙
-      c1 .loop .inv .1,
+          (first-miss _ _ _ (search needs)
+          (⊎-elim
+          (λ w. rw (ne-eqb _ _ (w .0 .taken), ← c .before .tag-of .ensures, w .1 .left))
+          (λ w. rw (eq-eqb _ _ (w .left)))
+          (c .if2 .came))) ∙
+          c1 .loop .inv .1,
     )
 
 returns : tie.Need-returns Inv-loop μ-loop

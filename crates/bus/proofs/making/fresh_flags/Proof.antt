@@ -42,10 +42,10 @@ loop-again c =
     let told = padded 8 (take (s .p) ones) in (
       search needs,
       rw (s .inv .1)
-      (set-past (replicate 8 0) told (s .p) 1 ∙
-      ap (λ (l : List ℕ). replicate 8 0 ++ l)
-      (ap (λ (z : ℕ). set told (s .p) z) (sym (getD-replicate {A = ℕ} n (s .p) 1 0 (search needs))) ∙
-      (pad-turn 8 (s .p) ones (omega (arith, all, c .loop-test)) (omega (arith, all, c .before .before .pre))))),
+          (set-past (replicate 8 0) told (s .p) 1 ∙
+          ap (λ (l : List ℕ). replicate 8 0 ++ l)
+          (ap (λ (z : ℕ). set told (s .p) z) (sym (getD-replicate {A = ℕ} n (s .p) 1 0 (search needs))) ∙
+          (pad-turn 8 (s .p) ones (omega (arith, all, c .loop-test)) (omega (arith, all, c .before .before .pre))))),
     )
 
 returns : tie.Need-returns Inv-loop μ-loop

@@ -125,9 +125,9 @@ loop-again c =
     let x = c11 .args in (
       omega (arith, c9 .loop-test),
       takes-turn (x .d) (steps (x .ops .now) (x .cores .now) (x .words .now) (x .values .now)) (c10 .loop .i) (length (x .ops .now)) _ _
-      (c10 .loop .inv .1) (omega (arith, c9 .loop-test)) _ _ _ _ (c8 .byte-at .ensures) (c7 .byte-at2 .ensures) (c6 .number-at .ensures)
-      (c5 .step-refusal .ensures) (c4 .if1 .left) _ (c2 .one-step .result) _ _ (c3 .number-at2 .ensures) (c2 .one-step .ensures)
-      (c1 .write-answer .ensures),
+          (c10 .loop .inv .1) (omega (arith, c9 .loop-test)) _ _ _ _ (c8 .byte-at .ensures) (c7 .byte-at2 .ensures) (c6 .number-at .ensures)
+          (c5 .step-refusal .ensures) (c4 .if1 .left) _ (c2 .one-step .result) _ _ (c3 .number-at2 .ensures) (c2 .one-step .ensures)
+          (c1 .write-answer .ensures),
       written-same _ _ _ (c10 .loop .i) (c2 .one-step .result) (c1 .write-answer .ensures) (c10 .loop .inv .2),
     )
 
