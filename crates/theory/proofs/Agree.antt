@@ -5,7 +5,8 @@ use mathlib.Core.Bool.{true, false, true≢false}
 use Prim.Native.Nat.{ℕ}
 use native.Mathlib.Decide.{ℕ-discrete}
 use Rattle.theory.specs.View.{bare, backup, Copy, none, regular, normal, tentative, isTentative, ownValue, rolledBack, committed, Word, View}
-use Rattle.theory.proofs.Move.{Move, moved, drop-regular, drop-normal, drop-backup, lower-regular, lower-normal, begin-backed, begin-bare, fill-regular, fill-tentative, fill-backed, own-regular, own-tentative, own-backed, upgrade}
+use Rattle.theory.proofs.Move.{Move, moved, drop-regular, drop-normal, drop-backup, lower-regular, lower-normal, begin-backed}
+use Rattle.theory.proofs.Move.{begin-bare, fill-regular, fill-tentative, fill-backed, own-regular, own-tentative, own-backed, upgrade}
 use Rattle.theory.proofs.OneWord.{Low, Alone, rolled, committedWord}
 use Rattle.theory.specs.Change.{Live, At, OnlyProcessor, same}
 use Rattle.theory.proofs.Moves.{Silent, still, move, rollback, wake}

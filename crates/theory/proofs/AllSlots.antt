@@ -4,7 +4,9 @@ use mathlib.Core.Logic.{_⊎_, inl, inr}
 use mathlib.Core.Bool.{true, false, true≢false, false≢true}
 use Prim.Native.Nat.{ℕ, _<_}
 use Rattle.theory.specs.View.{Back, bare, Copy, rolledBack, committed}
-use Rattle.theory.proofs.Cache.{Backs, Has, Line, Slot, Tidy, backOn, backed, blank, filled, in-line, in-slot, look, look-is, looks, main-tentative, mainOn, not-true, nowhere, lineCopy, regularOn, slotBackup, slotCopy, slotNormal, slotTentative, tentativeOn, tidy-shrink, unbacked, vacant}
+use Rattle.theory.proofs.Cache.{Backs, Has, Line, Slot, Tidy, backOn, backed, blank, filled, in-line, in-slot, look}
+use Rattle.theory.proofs.Cache.{look-is, looks, main-tentative, mainOn, not-true, nowhere, lineCopy, regularOn, slotBackup}
+use Rattle.theory.proofs.Cache.{slotCopy, slotNormal, slotTentative, tentativeOn, tidy-shrink, unbacked, vacant}
 
 -- a slot's rollback and its commit
 abbrev pub slotRollback : Slot → Slot

@@ -5,14 +5,18 @@ use mathlib.Core.Bool.{true, false, true≢false, false≢true}
 use mathlib.Core.List.{List, [], _∷_}
 use Prim.Native.Nat.{ℕ}
 use native.Mathlib.Decide.{ℕ-discrete}
-use Rattle.theory.specs.View.{LineState, valid, reserved, dirty, Copy, none, regular, normal, tentative, isDirty, isTentative, exclusive, owns, fine, ownValue, Word, View}
-use Rattle.theory.proofs.Move.{Move, drop-regular, drop-normal, drop-backup, lower-regular, lower-normal, begin-backed, begin-bare, fill-regular, fill-tentative, fill-backed, own-regular, own-tentative, own-backed, upgrade}
+use Rattle.theory.specs.View.{LineState, valid, reserved, dirty, Copy, none, regular, normal, tentative}
+use Rattle.theory.specs.View.{isDirty, isTentative, exclusive, owns, fine, ownValue, Word, View}
+use Rattle.theory.proofs.Move.{Move, drop-regular, drop-normal, drop-backup, lower-regular, lower-normal, begin-backed, begin-bare}
+use Rattle.theory.proofs.Move.{fill-regular, fill-tentative, fill-backed, own-regular, own-tentative, own-backed, upgrade}
 use Rattle.theory.proofs.OneWord.{Alone, stored-tentative, stored, low-cell, alone-low, released, clean-value}
 use Rattle.theory.specs.Event.{Event, store, tread}
 use Rattle.theory.specs.Change.{At}
-use Rattle.theory.proofs.Moves.{Silent, still, move, rollback, wake, sees, Shown, loads, stores, writes, treads, twrites, releases, commits, drops, Run, done, quietly, showing}
+use Rattle.theory.proofs.Moves.{Silent, still, move, rollback, wake, sees, Shown, loads, stores, writes}
+use Rattle.theory.proofs.Moves.{treads, twrites, releases, commits, drops, Run, done, quietly, showing}
 use Rattle.theory.specs.Log.{put, Item, read, write, replay, forget}
-use Rattle.theory.proofs.Logs.{put-here, put-else, Good, good-copies, good-memory, good-empty, good-read, good-write, plain-tv, unstored, good-forget, Keeps}
+use Rattle.theory.proofs.Logs.{put-here, put-else, Good, good-copies, good-memory, good-empty}
+use Rattle.theory.proofs.Logs.{good-read, good-write, plain-tv, unstored, good-forget, Keeps}
 use Rattle.theory.specs.Plain.{Plain, next, Agrees, Serial, Sees, Opaque, after}
 use Rattle.theory.proofs.Agree.{Agree, agree-at, agree-silent, agree-commit, agree-flags, committed-tentative}
 

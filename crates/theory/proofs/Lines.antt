@@ -5,7 +5,8 @@ use mathlib.Core.Bool.{true, false, true≢false}
 use Prim.Native.Nat.{ℕ, _<_}
 use native.Mathlib.Decide.{ℕ-discrete}
 use Rattle.theory.specs.View.{LineState, none, regular}
-use Rattle.theory.proofs.Cache.{Slot, Line, blank, filled, is-self, is-other, mainOn, regularOn, in-line, nowhere, look, Tidy, looks, LineCalm, look-calm, not-true}
+use Rattle.theory.proofs.Cache.{Slot, Line, blank, filled, is-self, is-other, mainOn, regularOn}
+use Rattle.theory.proofs.Cache.{in-line, nowhere, look, Tidy, looks, LineCalm, look-calm, not-true}
 
 abbrev pub lineIs : ℕ → Line → Type 0
 lineIs u blank = Unit {0}

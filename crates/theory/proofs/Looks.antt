@@ -3,7 +3,9 @@ use mathlib.Core.Path.{_≡_, refl, sym, _∙_}
 use mathlib.Core.Bool.{Bool, true, false, true≢false, false≢true}
 use Prim.Native.Nat.{ℕ, _<_}
 use Rattle.theory.specs.View.{LineState, Back, Copy, none, regular, normal, tentative}
-use Rattle.theory.proofs.Cache.{Slot, vacant, slotNormal, slotBackup, slotTentative, Line, blank, filled, is-true, mainOn, backOn, regularOn, lineCopy, slotCopy, Backs, Has, in-line, in-slot, nowhere, look, look-is, Tidy, main-tentative, not-true, looks}
+use Rattle.theory.proofs.Cache.{Slot, vacant, slotNormal, slotBackup, slotTentative, Line, blank, filled}
+use Rattle.theory.proofs.Cache.{is-true, mainOn, backOn, regularOn, lineCopy, slotCopy, Backs, Has, in-line}
+use Rattle.theory.proofs.Cache.{in-slot, nowhere, look, look-is, Tidy, main-tentative, not-true, looks}
 use Rattle.theory.proofs.Slots.{look-none}
 
 -- what is seen is in a slot

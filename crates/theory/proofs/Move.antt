@@ -3,7 +3,8 @@ use mathlib.Core.Path.{_≡_, refl}
 use mathlib.Core.Logic.{_≢_, _⊎_, inl, inr}
 use mathlib.Core.Bool.{Bool, true, false, true≢false, false≢true}
 use Prim.Native.Nat.{ℕ}
-use Rattle.theory.specs.View.{wrote, dried, has, LineState, valid, reserved, dirty, Back, bare, backup, Copy, none, regular, normal, tentative, above, isDirty, exclusive, owns, fine, Word}
+use Rattle.theory.specs.View.{wrote, dried, has, LineState, valid, reserved, dirty, Back, bare, backup, Copy}
+use Rattle.theory.specs.View.{none, regular, normal, tentative, above, isDirty, exclusive, owns, fine, Word}
 use Rattle.theory.proofs.OneWord.{Alone, Low, alone-low, back-raise, below-self, below-valid, low-cell, quiet}
 
 -- what a processor may do with its own copy of a word without changing the word's settled value.

@@ -5,7 +5,8 @@ use mathlib.Core.Bool.{Bool, true, false}
 use mathlib.Core.List.{List, [], _∷_}
 use Prim.Native.Nat.{ℕ}
 use Rattle.theory.specs.Event.{Event, load, store, tread, twrite, release, commit, drop}
-use Rattle.theory.specs.View.{LineState, dirty, Back, Copy, none, regular, normal, tentative, above, isDirty, isTentative, rolledBack, committed, View}
+use Rattle.theory.specs.View.{LineState, dirty, Back, Copy, none, regular, normal, tentative}
+use Rattle.theory.specs.View.{above, isDirty, isTentative, rolledBack, committed, View}
 use Rattle.theory.specs.Change.{Live, At, OnlyProcessor, same, Same}
 use Rattle.theory.proofs.Move.{Move}
 use Rattle.theory.proofs.OneWord.{Low, Alone}

@@ -4,7 +4,8 @@ use mathlib.Core.Logic.{_≢_, _⊎_, inl, inr}
 use mathlib.Core.Bool.{Bool, true, false, true≢false, false≢true}
 use Prim.Native.Nat.{ℕ}
 use native.Mathlib.Decide.{ℕ-discrete}
-use Rattle.theory.specs.View.{has, LineState, valid, reserved, dirty, Back, bare, backup, Copy, none, regular, normal, tentative, above, isDirty, below, exclusive, backDirty, owns, fineBack, fine, ownValue, rolledBack, committed, Word}
+use Rattle.theory.specs.View.{has, LineState, valid, reserved, dirty, Back, bare, backup, Copy, none, regular, normal, tentative}
+use Rattle.theory.specs.View.{above, isDirty, below, exclusive, backDirty, owns, fineBack, fine, ownValue, rolledBack, committed, Word}
 
 pub changed : {m m′ x x′ : ℕ} {c c′ : ℕ → Copy} {p : ℕ} {k : Copy}
     → Word m c x

@@ -7,10 +7,12 @@ use Prim.Native.Nat.{ℕ, _≤_}
 use native.Mathlib.Decide.{ℕ-discrete}
 use Rattle.theory.specs.View.{LineState, valid, Back, bare, backup, Copy, none, regular, normal, tentative, above, isTentative, View}
 use Rattle.theory.proofs.OneWord.{valid-clean}
-use Rattle.theory.proofs.Move.{drop-regular, drop-normal, drop-backup, begin-backed, begin-bare, fill-regular, fill-tentative, fill-backed, own-tentative, own-backed, upgrade}
+use Rattle.theory.proofs.Move.{drop-regular, drop-normal, drop-backup, begin-backed, begin-bare}
+use Rattle.theory.proofs.Move.{fill-regular, fill-tentative, fill-backed, own-tentative, own-backed, upgrade}
 use Rattle.theory.specs.Event.{Event, load, drop}
 use Rattle.theory.specs.Change.{Live, At, OnlyProcessor, same, Same}
-use Rattle.theory.proofs.Moves.{Silent, still, move, wake, sees, Shown, loads, stores, writes, treads, twrites, commits, drops, Run, done, quietly, showing, run-then, run-one}
+use Rattle.theory.proofs.Moves.{Silent, still, move, wake, sees, Shown, loads, stores, writes, treads}
+use Rattle.theory.proofs.Moves.{twrites, commits, drops, Run, done, quietly, showing, run-then, run-one}
 use Rattle.theory.proofs.Agree.{Agree, rolledBack-tentative}
 use Rattle.theory.specs.Bus
 use Rattle.theory.proofs.Serve.{Far, Gives, Phase, by-grant, by-plain, rollback-silent}

@@ -6,7 +6,8 @@ use mathlib.Core.List.{List}
 use Prim.Native.Nat.{ℕ, zero, suc, _≤_, _<_}
 use native.Mathlib.Decide.{ℕ-discrete, decLt}
 use native.Mathlib.Omega.{arith}
-use Rattle.theory.specs.View.{LineState, Back, bare, backup, Copy, none, regular, normal, tentative, above, isDirty, below, isTentative, exclusive, owns, fineBack, fine, has, Word, View}
+use Rattle.theory.specs.View.{LineState, Back, bare, backup, Copy, none, regular, normal, tentative, above}
+use Rattle.theory.specs.View.{isDirty, below, isTentative, exclusive, owns, fineBack, fine, has, Word, View}
 use Rattle.theory.proofs.OneWord.{owns-exclusive, clean-backup, clean-value, below-above, below-clean, dirty-above}
 use Rattle.theory.specs.Event.{Event}
 use Rattle.theory.specs.Change.{Live}

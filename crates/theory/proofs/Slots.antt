@@ -5,7 +5,10 @@ use mathlib.Core.Bool.{Bool, true, false, true≢false, false≢true}
 use Prim.Native.Nat.{ℕ, _<_}
 use native.Mathlib.Decide.{ℕ-discrete}
 use Rattle.theory.specs.View.{LineState, Back, bare, backup, Copy, none, normal, tentative}
-use Rattle.theory.proofs.Cache.{Slot, vacant, slotNormal, slotBackup, slotTentative, Line, blank, filled, is-self, is-other, is-true, mainOn, backOn, tentativeOn, regularOn, lineCopy, slotCopy, Backs, backed, unbacked, Has, in-line, in-slot, nowhere, backOf, look, back-is, look-is, Tidy, looks, Off, Calm, look-calm, tidy-shrink, main-tentative, not-true}
+use Rattle.theory.proofs.Cache.{Slot, vacant, slotNormal, slotBackup, slotTentative, Line, blank, filled, is-self}
+use Rattle.theory.proofs.Cache.{is-other, is-true, mainOn, backOn, tentativeOn, regularOn, lineCopy, slotCopy}
+use Rattle.theory.proofs.Cache.{Backs, backed, unbacked, Has, in-line, in-slot, nowhere, backOf, look, back-is}
+use Rattle.theory.proofs.Cache.{look-is, Tidy, looks, Off, Calm, look-calm, tidy-shrink, main-tentative, not-true}
 
 -- a slot that has nothing of any word but u
 abbrev pub Of : ℕ → Slot → Type 0

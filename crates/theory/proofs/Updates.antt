@@ -7,9 +7,11 @@ use Prim.Native.Nat.{ℕ, _<_}
 use native.Mathlib.Decide.{ℕ-discrete}
 use Rattle.theory.specs.View.{LineState, Back, bare, backup, Copy, none, regular, normal, tentative, wrote, rolledBack, committed, View}
 use Rattle.theory.specs.Change.{At, OnlyProcessor, same, Same}
-use Rattle.theory.proofs.Cache.{Slot, vacant, slotNormal, slotBackup, slotTentative, Line, blank, filled, mainOn, backOn, tentativeOn, slotCopy, Backs, look, Tidy, look-calm, tidy-shrink}
+use Rattle.theory.proofs.Cache.{Slot, vacant, slotNormal, slotBackup, slotTentative, Line, blank, filled}
+use Rattle.theory.proofs.Cache.{mainOn, backOn, tentativeOn, slotCopy, Backs, look, Tidy, look-calm, tidy-shrink}
 use Rattle.theory.proofs.AllSlots.{slotRollback, slotCommit, tidy-committed, look-committed, tidy-rolled, look-rolled}
-use Rattle.theory.proofs.Slots.{wordIs, look-normal, look-else, tidy-out, look-out, tidy-backout, look-backout, tidy-turn, look-turn, tidy-in, look-in, tidy-back, look-back}
+use Rattle.theory.proofs.Slots.{wordIs, look-normal, look-else, tidy-out, look-out, tidy-backout}
+use Rattle.theory.proofs.Slots.{look-backout, tidy-turn, look-turn, tidy-in, look-in, tidy-back, look-back}
 use Rattle.theory.proofs.Lines.{lineIs, tidy-line, line-else, look-blank, look-filled}
 use Rattle.theory.specs.Bus
 

@@ -4,7 +4,8 @@ use mathlib.Core.Logic.{_≢_, _⊎_}
 use mathlib.Core.Bool.{Bool, true, false}
 use mathlib.Core.List.{List, [], _∷_}
 use Prim.Native.Nat.{ℕ, zero, suc}
-use Rattle.theory.specs.View.{LineState, valid, reserved, dirty, Back, bare, backup, Copy, none, regular, normal, tentative, above, isDirty, wrote, dried, isTentative, rolledBack, committed, View}
+use Rattle.theory.specs.View.{LineState, valid, reserved, dirty, Back, bare, backup, Copy, none, regular, normal}
+use Rattle.theory.specs.View.{tentative, above, isDirty, wrote, dried, isTentative, rolledBack, committed, View}
 use Rattle.theory.specs.Event.{Event, load, store, tread, twrite, commit, drop}
 use Rattle.theory.specs.Change.{At, OnlyProcessor, same, Same}
 
