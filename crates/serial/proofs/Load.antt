@@ -31,7 +31,8 @@ use Rattle.serial.proofs.Frame.{LineFits, Fits}
 use Rattle.serial.proofs.Set.{Fit, Memory, memory-same}
 use Rattle.serial.proofs.Ends.{Does, rollback-fit, rollback-is}
 use Rattle.serial.proofs.Codes.{above-code, tagged-fits}
-use Rattle.serial.proofs.Find.{home-in, is-none, found-tag, found-word, entry-fits, backing, has-regular, no-regular, has-normal, has-tentative, no-normal, no-tentative}
+use Rattle.serial.proofs.Find.{home-in, is-none, found-tag, found-word, entry-fits, backing, has-regular}
+use Rattle.serial.proofs.Find.{no-regular, has-normal, has-tentative, no-normal, no-tentative}
 use Rattle.serial.proofs.Requests.{Served, by-force, is-READ}
 use Rattle.serial.proofs.Lined.{lined-at, lined-fit, lined-regular, own-line, own-copy, Evicted, evicts}
 

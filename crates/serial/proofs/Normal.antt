@@ -23,7 +23,8 @@ use Rattle.machine.specs.Transact.{openNormal}
 use Rattle.theory.specs.View.{LineState, valid, reserved, dirty, bare, backup, normal, tentative, dried}
 use Rattle.theory.specs.Change.{At}
 use Rattle.theory.proofs.Moves.{at-trans}
-use Rattle.theory.proofs.Cache.{vacant, slotNormal, slotBackup, slotTentative, mainOn, backOn, tentativeOn, is-self, unbacked, main-tentative, not-true}
+use Rattle.theory.proofs.Cache.{vacant, slotNormal, slotBackup, slotTentative, mainOn, backOn}
+use Rattle.theory.proofs.Cache.{tentativeOn, is-self, unbacked, main-tentative, not-true}
 use Rattle.theory.proofs.Updates.{AllTidy, SlotSet, turned, backs-up}
 use Rattle.theory.specs.Bus.{Begun, with-backup, without}
 use Rattle.serial.specs.Taking.{valueEnd}

@@ -29,7 +29,8 @@ use Rattle.serial.proofs.Set.{Fit, entryOn, lineOn}
 use Rattle.serial.proofs.Codes.{both-true, either-left, either-right, pick-no, slot-normal, slot-tentative, tagged-fits}
 use Rattle.serial.proofs.Find.{entry-fits, slot-at, no-regular, slot-normal-at, slot-tentative-at}
 use Rattle.serial.proofs.Others.{Cycle, Own, own-refl, own-trans, each, is-free, roll-others}
-use Rattle.serial.proofs.Snoop.{left, snooped-is, Asks, refuses-left, Asked, nothing-asked, line-held, main, line-asked, normal-asked, tentative-asked}
+use Rattle.serial.proofs.Snoop.{left, snooped-is, Asks, refuses-left, Asked, nothing-asked}
+use Rattle.serial.proofs.Snoop.{line-held, main, line-asked, normal-asked, tentative-asked}
 
 -- the search for a NORMAL or tentative entry
 module _ (s : Caches) (q n w : ℕ) where

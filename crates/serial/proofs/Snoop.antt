@@ -28,7 +28,8 @@ use Rattle.serial.proofs.Decode.{stateOf, slotOf, lineOf, decoded, seen
 use Rattle.serial.proofs.Frame.{LineFits, EntryFits, Fits, fits-word, line-word}
 use Rattle.serial.proofs.Set.{Fit, entryOn, lineOn, Memory, back-at, back-here, set-slot, entry-fit}
 use Rattle.serial.proofs.Codes.{both-left, both-right, normal-slot, above-code, tagged-fits}
-use Rattle.serial.proofs.Find.{home-in, backing, entry-fits, line-fits, line-filled, has-regular, slot-at, slot-normal-at, has-normal, has-tentative}
+use Rattle.serial.proofs.Find.{home-in, backing, entry-fits, line-fits, line-filled}
+use Rattle.serial.proofs.Find.{has-regular, slot-at, slot-normal-at, has-normal, has-tentative}
 use Rattle.serial.proofs.Lined.{none-range, lined-at, lined-fit, lined-blank, lined-regular}
 use Rattle.serial.proofs.Others.{Cycle, Own, own-refl}
 

@@ -27,7 +27,8 @@ use Rattle.theory.proofs.Slots.{look-none}
 use Rattle.theory.proofs.Lines.{lineIs, line-main}
 use Rattle.theory.proofs.Updates.{AllTidy, normal-gone}
 use Rattle.theory.proofs.Agree.{rolledBack-tentative}
-use Rattle.theory.specs.Bus.{store-hit, store-through, store-miss, Plainly, owning, isNormal, Unheld, none-held, was-held, Unnormal, none-normal, was-normal}
+use Rattle.theory.specs.Bus.{store-hit, store-through, store-miss, Plainly, owning, isNormal}
+use Rattle.theory.specs.Bus.{Unheld, none-held, was-held, Unnormal, none-normal, was-normal}
 use Rattle.theory.proofs.Refine.{same-refl, freed-none}
 use Rattle.serial.specs.Shown.{byStore}
 use Rattle.serial.specs.Taking.{valueEnd}
@@ -36,7 +37,8 @@ use Rattle.serial.proofs.Frame.{LineFits, Fits, fits-word}
 use Rattle.serial.proofs.Set.{Fit, Memory, memory-same, memory-set, back-at, back-here, set-slot, entry-fit}
 use Rattle.serial.proofs.Ends.{Does, rollback-fit, rollback-is}
 use Rattle.serial.proofs.Codes.{both-left, above-code}
-use Rattle.serial.proofs.Find.{home-in, is-none, found-tag, found-word, entry-fits, line-filled, has-regular, no-regular, slot-normal-at, has-tentative, no-normal, no-tentative}
+use Rattle.serial.proofs.Find.{home-in, is-none, found-tag, found-word, entry-fits, line-filled, has-regular}
+use Rattle.serial.proofs.Find.{no-regular, slot-normal-at, has-tentative, no-normal, no-tentative}
 use Rattle.serial.proofs.Requests.{Served, by-force, is-RFO, is-WRITE}
 use Rattle.serial.proofs.Lined.{none-range, lined-at, lined-fit, lined-regular, own-line, own-copy, Evicted, evicts}
 use Rattle.serial.proofs.Load.{line-entry, line-range}

@@ -13,7 +13,8 @@ use Rattle.machine.specs.State.{Caches, lineAt, entryAt}
 use Rattle.machine.specs.Own.{home}
 use Rattle.machine.specs.Sound
 use Rattle.theory.specs.View.{LineState, valid, Back, backup, Copy, none, regular, normal, tentative, above, below, has, exclusive}
-use Rattle.theory.proofs.Cache.{Slot, vacant, slotNormal, slotBackup, slotTentative, slotBack, tentativeOn, regularOn, is-self, is-true, Backs, backed, unbacked}
+use Rattle.theory.proofs.Cache.{Slot, vacant, slotNormal, slotBackup, slotTentative, slotBack}
+use Rattle.theory.proofs.Cache.{tentativeOn, regularOn, is-self, is-true, Backs, backed, unbacked}
 use Rattle.theory.proofs.Looks.{normal-seen, tentative-seen, regular-seen}
 use Rattle.theory.proofs.Slots.{look-tentative}
 use Rattle.serial.proofs.Decode.{stateOf, decoded, seen}
