@@ -18,12 +18,14 @@ use Rattle.machine.specs.Refusals.{accepted}
 use Rattle.machine.specs.Making.{dimsRefusal, makeRefusal, fresh, makeOf}
 use Rattle.machine.specs.Own.{home, findEntry, lowest, freeSlot, liveEntry}
 use Rattle.machine.specs.Rollback.{rolledEntries, statusDown, committedEntries}
-use Rattle.machine.specs.Bus.{writtenBack, writes, snoopLine, snoopEntry, snoopOne, snoop, opposes, firstOpposing, refuses, rollOne, rollOthers, plainRequest}
+use Rattle.machine.specs.Bus.{writtenBack, writes, snoopLine, snoopEntry, snoopOne, snoop}
+use Rattle.machine.specs.Bus.{opposes, firstOpposing, refuses, rollOne, rollOthers, plainRequest}
 use Rattle.machine.specs.Load.{loadMiss, loadOn, load}
 use Rattle.machine.specs.Store.{rollOwn, dropNormal, storeThrough, storeMiss, storeLine, store}
 use Rattle.machine.specs.Transact.{dropLine, finish, hit, openNormal, clearBackup, fillBackup, fill, request, missAt, miss, seek, transact}
 use Rattle.machine.specs.Ends.{commit, abort, validate, interrupt}
-use Rattle.machine.specs.SoundTest.{markAll, ownAll, copyOk, isHome, lineOk, flagsUp, backupOk, entryOk, linesOk, entriesOk, flagsOk, memoryOk, copiesOk, soundOf}
+use Rattle.machine.specs.SoundTest.{markAll, ownAll, copyOk, isHome, lineOk, flagsUp, backupOk}
+use Rattle.machine.specs.SoundTest.{entryOk, linesOk, entriesOk, flagsOk, memoryOk, copiesOk, soundOf}
 use Rattle.machine.specs.Step.{stepRefusal, takeStep}
 use Rattle.machine.specs.Run.{Steps, steps, Columns, columns, Left, columnsOk, runSound, runOf}
 
@@ -86,7 +88,11 @@ allTaken n c r = both (eqb (r .ran .taken) n) (both (eqb (r .ran .refusal) accep
 
 -- The line names every definition that a run computes with, so that a table's own proof names only this one.
 unfoldable pub passes : Case → Bool
-unfolding foldRange firstFrom untilRange applyFrom dimsRefusal makeRefusal fresh makeOf home findEntry lowest freeSlot liveEntry rolledEntries statusDown committedEntries writtenBack writes snoopLine snoopEntry snoopOne snoop opposes firstOpposing refuses rollOne rollOthers plainRequest loadMiss loadOn load rollOwn dropNormal storeThrough storeMiss storeLine store dropLine finish hit openNormal clearBackup fillBackup fill request missAt miss seek transact commit abort validate interrupt markAll ownAll copyOk isHome lineOk flagsUp backupOk entryOk linesOk entriesOk flagsOk memoryOk copiesOk soundOf stepRefusal takeStep columnsOk runSound runOf
+unfolding foldRange firstFrom untilRange applyFrom dimsRefusal makeRefusal fresh makeOf home findEntry lowest freeSlot liveEntry
+    rolledEntries statusDown committedEntries writtenBack writes snoopLine snoopEntry snoopOne snoop opposes firstOpposing refuses rollOne
+    rollOthers plainRequest loadMiss loadOn load rollOwn dropNormal storeThrough storeMiss storeLine store dropLine finish hit openNormal
+    clearBackup fillBackup fill request missAt miss seek transact commit abort validate interrupt markAll ownAll copyOk isHome lineOk
+    flagsUp backupOk entryOk linesOk entriesOk flagsOk memoryOk copiesOk soundOf stepRefusal takeStep columnsOk runSound runOf
 passes c =
     let m = makeOf (c .machine) (c .memory) in
     let n = length (c .rows) in

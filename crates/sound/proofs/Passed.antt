@@ -209,5 +209,6 @@ module _ (d : Dims) (s : Caches) (h : Sound d s) where
     flags = flag-fits;
     memory = λ w a b. h .memory-inside w b a;
     lines = each-place (λ j. Filled (s .lines) j → LineFits (s .memory) marks owners d (getD (s .lines) j 0) j) line-fits;
-    entries = each-place (λ j. Filled (s .entries) j → EntryFits (s .memory) marks owners (s .entries) (s .flags) d (getD (s .entries) j 0) j) entry-fits;
+    entries = each-place
+        (λ j. Filled (s .entries) j → EntryFits (s .memory) marks owners (s .entries) (s .flags) d (getD (s .entries) j 0) j) entry-fits;
   }

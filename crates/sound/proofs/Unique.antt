@@ -13,7 +13,8 @@ use Rattle.sound.proofs.sound.Kinds as sound-kinds
 use Rattle.sound.proofs.sound.Reads as sound-reads
 
 pub dims-refusal-unique : (κs : Lfts 0) (a : ArgsD dims-refusal.signature κs) (r r' : ResD dims-refusal.signature κs)
-    (s s' : AtExit (endedOf 0 dims-refusal-kinds.ps dims-refusal-kinds.r) κs) → dims-refusal-reads.Post κs a r s → dims-refusal-reads.Post κs a r' s' →
+    (s s' : AtExit (endedOf 0 dims-refusal-kinds.ps dims-refusal-kinds.r) κs) →
+    dims-refusal-reads.Post κs a r s → dims-refusal-reads.Post κs a r' s' →
     r ≡ r'
 dims-refusal-unique κs a r r' s s' p q = p ∙ sym q
 

@@ -35,16 +35,20 @@ loop-less c = search needs
 
 loop-again : tie.Need-loop-again Inv-loop μ-loop
 loop-again c =
-    let c1 = c .before .before .before .before in
-    sym (first-miss _ _ _ (search needs) (rw (← c .before .before .byte-at .ensures, ← c .before .byte-at2 .ensures, eq-eqb _ _ (c .if2 .left)))) ∙ c1 .loop .inv
+    let c1 = c .before .before in
+    let read = c1 .byte-at .ensures in
+    let named = c .before .byte-at2 .ensures in
+    sym (first-miss _ _ _ (search needs) (rw (← read, ← named, eq-eqb _ _ (c .if2 .left)))) ∙ c1 .before .before .loop .inv
 
 returns : tie.Need-returns Inv-loop μ-loop
 returns c = sym (first-end _ _ _ (search needs)) ∙ c .before .loop .inv
 
 returns-2 : tie.Need-returns-2 Inv-loop μ-loop
 returns-2 c =
-    let c1 = c .before .before .before .before in
-    sym (first-hit _ _ _ (search needs) (rw (← c .before .before .byte-at .ensures, ← c .before .byte-at2 .ensures, ne-eqb _ _ (c .if2 .taken)))) ∙ c1 .loop .inv
+    let c1 = c .before .before in
+    let read = c1 .byte-at .ensures in
+    let named = c .before .byte-at2 .ensures in
+    sym (first-hit _ _ _ (search needs) (rw (← read, ← named, ne-eqb _ _ (c .if2 .taken)))) ∙ c1 .before .before .loop .inv
 
 pub first-unlike-spec : {M : Type 1} → statement M
 first-unlike-spec =

@@ -147,8 +147,9 @@ returns-5 c =
 
 add-step-of : tie.Need-add-step-of
 add-step-of c =
-    let c1 = c .before .before .before .before .before .before .before .before .before .before .before .before .before .before .before .before .before in
-    let h = inside _ _ _ _ (sym (c1 .before .before .split-record .ensures) ∙ c1 .cs .given .1) in
+    let c1 = c .before .before .before .before .before .before .before .before in
+    let c2 = c1 .before .before .before .before .before .before .before .before .before in
+    let h = inside _ _ _ _ (sym (c2 .before .before .split-record .ensures) ∙ c2 .cs .given .1) in
     omega (arith, h .b)
 
 step-of-requires : tie.Need-step-of-requires
