@@ -114,7 +114,11 @@ module _ (s : List ℕ) (d : Dims) where
   pub went-on : (x : Place) (c : Caches) (used : ℕ) (o : List ℕ) (w : Carried Going) → fillFrom (carried (going x c) used o) ≡ w →
       x .phase < NOTHING → leb (used + mostLine) (length o) ≡ true → (v : Carried Going) → v ≡ wrote (doLine s d x c) used o → fillFrom v ≡ w
   went-on x c used o w e h r v ev =
-      rw ev (sym (run-turn stop go (λ (z : Carried Going). linesLeft s d (z .state)) stop-falls (carried (going x c) used o) (rw (lt-ltb (x .phase) NOTHING h, r))) ∙ e)
+      rw ev
+      (sym
+      (run-turn stop go (λ (z : Carried Going). linesLeft s d (z .state)) stop-falls (carried (going x c) used o)
+      (rw (lt-ltb (x .phase) NOTHING h, r))) ∙
+      e)
 
   pub less : (x : Place) (c : Caches) (used : ℕ) (o : List ℕ) → x .phase < NOTHING → (y : Place) (c' : Caches) (k : ℕ) (o' : List ℕ) →
       carried (going y c') k o' ≡ wrote (doLine s d x c) used o → linesLeft s d (going y c') < linesLeft s d (going x c)

@@ -81,7 +81,8 @@ module _ (s : List ℕ) where
   look-next d x = by (ltb mostBytes (past s (recordEnd s (x .at)))) (recordOf s (x .at) (recordEnd s (x .at)))
     where
       by : (b : Bool) (r : Record) →
-          pick b (record { next = past s (recordEnd s (x .at)); refusal = tooLong; fields = record { grant = 0; core = 0; op = 0; word = 0; value = 0 } })
+          pick b
+          (record { next = past s (recordEnd s (x .at)); refusal = tooLong; fields = record { grant = 0; core = 0; op = 0; word = 0; value = 0 } })
           (lookedIn d x (past s (recordEnd s (x .at))) r) .next ≡ past s (recordEnd s (x .at))
       by true r = refl
       by false (record-is.Refused n) = refl

@@ -47,7 +47,8 @@ module _ (s : List ℕ) where
       piece-joins (goesOn s (dimsOf x)) (lineAt s (dimsOf x)) (nextAt s (dimsOf x)) mostLine (linesLeft s (dimsOf x)) (falls s (dimsOf x))
       (λ g. fair-line s (dimsOf x) g .1) o (leftOver x) (goingOf x)
 
-  pub piece-kept : (x : Replaying) (o : List ℕ) → drop (nextPiece s x o .piece .used) (nextPiece s x o .buffer) ≡ drop (nextPiece s x o .piece .used) o
+  pub piece-kept : (x : Replaying) (o : List ℕ) →
+      drop (nextPiece s x o .piece .used) (nextPiece s x o .buffer) ≡ drop (nextPiece s x o .piece .used) o
   unfolding nextPiece fillOf
   piece-kept x o =
       piece-keeps (goesOn s (dimsOf x)) (lineAt s (dimsOf x)) (nextAt s (dimsOf x)) mostLine (linesLeft s (dimsOf x)) (falls s (dimsOf x))
@@ -62,12 +63,14 @@ module _ (s : List ℕ) where
   piece-on : (x : Replaying) (o : List ℕ) → isMore x ≡ true → mostLine ≤ length o → leftOver (after x o) < leftOver x
   unfolding nextPiece fillOf
   piece-on x o e h =
-      goes-on (goesOn s (dimsOf x)) (lineAt s (dimsOf x)) (nextAt s (dimsOf x)) mostLine (linesLeft s (dimsOf x)) (falls s (dimsOf x)) (goingOf x) o e h
+      goes-on (goesOn s (dimsOf x)) (lineAt s (dimsOf x)) (nextAt s (dimsOf x)) mostLine (linesLeft s (dimsOf x)) (falls s (dimsOf x))
+      (goingOf x) o e h
 
   piece-ended : (x : Replaying) (o : List ℕ) → isMore x ≡ false → (writtenBy x o ≡ []) × (isMore (after x o) ≡ false)
   unfolding nextPiece fillOf
   piece-ended x o e =
-      rw (piece-none (goesOn s (dimsOf x)) (lineAt s (dimsOf x)) (nextAt s (dimsOf x)) mostLine (linesLeft s (dimsOf x)) (falls s (dimsOf x)) (leftOver x) (goingOf x) o e)
+      rw (piece-none (goesOn s (dimsOf x)) (lineAt s (dimsOf x)) (nextAt s (dimsOf x)) mostLine (linesLeft s (dimsOf x)) (falls s (dimsOf x))
+      (leftOver x) (goingOf x) o e)
       (refl, e)
 
   -- f pieces joined, the last into os 0

@@ -11,7 +11,8 @@ use Rattle.laws.specs.Places.{applyFrom}
 use Rattle.machine.specs.Making.{dims, dimsRefusal, makeRefusal, fresh, makeOf}
 use Rattle.machine.specs.Own.{home, findEntry, lowest, freeSlot, liveEntry}
 use Rattle.machine.specs.Rollback.{rolledEntries, statusDown, committedEntries}
-use Rattle.machine.specs.Bus.{writtenBack, writes, snoopLine, snoopEntry, snoopOne, snoop, opposes, firstOpposing, refuses, rollOne, rollOthers, plainRequest}
+use Rattle.machine.specs.Bus.{writtenBack, writes, snoopLine, snoopEntry, snoopOne, snoop}
+use Rattle.machine.specs.Bus.{opposes, firstOpposing, refuses, rollOne, rollOthers, plainRequest}
 use Rattle.machine.specs.Load.{loadMiss, loadOn, load}
 use Rattle.machine.specs.Store.{rollOwn, dropNormal, storeThrough, storeMiss, storeLine, store}
 use Rattle.machine.specs.Transact.{dropLine, finish, hit, openNormal, clearBackup, fillBackup, fill, request, missAt, miss, seek, transact}
@@ -44,7 +45,13 @@ same (x ∷ l) (y ∷ m) = let rest = same l m in pick (eqb x y) rest false
 
 -- "The machine has 4 processors, 16 words, 4 lines, 4 entries, memory zero."
 pub lists : List String → List String → Bool
-unfolding foldRange firstFrom applyFrom dimsRefusal makeRefusal fresh makeOf home findEntry lowest freeSlot liveEntry rolledEntries statusDown committedEntries writtenBack writes snoopLine snoopEntry snoopOne snoop opposes firstOpposing refuses rollOne rollOthers plainRequest loadMiss loadOn load rollOwn dropNormal storeThrough storeMiss storeLine store dropLine finish hit openNormal clearBackup fillBackup fill request missAt miss seek transact commit abort validate interrupt stepRefusal takeStep findOf push fieldOf unlikeOf sameText otherStepOf stepOf recordEnd plainOf splitOf recordOf widthFrom widthOf digits decimal textFrom more64 past phaseAt firstPhase headerOk beginAt answerLine endLine rises fieldsRefusal lookAt answerOf phaseAfter placeAfter doRecord doOther doLine listingFrom beginOf listing
+unfolding foldRange firstFrom applyFrom dimsRefusal makeRefusal fresh makeOf home findEntry lowest freeSlot liveEntry rolledEntries
+    statusDown committedEntries writtenBack writes snoopLine snoopEntry snoopOne snoop opposes firstOpposing refuses rollOne rollOthers
+    plainRequest loadMiss loadOn load rollOwn dropNormal storeThrough storeMiss storeLine store dropLine finish hit openNormal clearBackup
+    fillBackup fill request missAt miss seek transact commit abort validate interrupt stepRefusal takeStep findOf push fieldOf unlikeOf
+    sameText otherStepOf stepOf recordEnd plainOf splitOf recordOf widthFrom widthOf digits decimal textFrom more64 past phaseAt firstPhase
+    headerOk beginAt answerLine endLine rises fieldsRefusal lookAt answerOf phaseAfter placeAfter doRecord doOther doLine listingFrom
+    beginOf listing
 lists input output = same (listing (dims 4 16 4 4) (joined input)) (joined output)
 
 abbrev worked : List String
@@ -84,6 +91,7 @@ pub short-listed : T
     (both (lists ("" ∷ []) ("record,answer,value,bus" ∷ "0,REFUSED,13,0" ∷ "END,COMMITTED,0,0" ∷ "" ∷ []))
     (both (lists ("grant,core,op,word,value" ∷ []) ("record,answer,value,bus" ∷ "END,COMMITTED,0,0" ∷ "" ∷ []))
     (lists ("grant,core,op,word,value" ∷ "" ∷ "5,0,load,1,0" ∷ "5,9,LOAD,1,0" ∷ "5,0,LOAD,16,0" ∷ "5,0,LOAD,1,0" ∷ "5,0,LOAD,1,0" ∷ [])
-    ("record,answer,value,bus" ∷ "1,REFUSED,11,0" ∷ "2,REFUSED,6,0" ∷ "3,REFUSED,7,0" ∷ "4,REFUSED,8,0" ∷ "5,VALUE,0,1" ∷ "6,REFUSED,12,0" ∷ "END,COMMITTED,0,1" ∷ "" ∷ []))))
+    ("record,answer,value,bus" ∷ "1,REFUSED,11,0" ∷ "2,REFUSED,6,0" ∷ "3,REFUSED,7,0" ∷ "4,REFUSED,8,0" ∷
+    "5,VALUE,0,1" ∷ "6,REFUSED,12,0" ∷ "END,COMMITTED,0,1" ∷ "" ∷ []))))
 unfolding lists
 short-listed = tt

@@ -46,7 +46,8 @@ returns-2 c =
 do-line-requires : tie.Need-do-line-requires Inv-loop μ-loop
 do-line-requires c κs =
     let r = c .before .before .before .before .before in
-    leb-true _ _ (some-room _ _ (r .before .before .before .before .loop .out) _ (r .before .before .before .before .loop .inv .0) (r .before .has-room .ensures) (r .if2 .left))
+    let l = r .before .before .before .before .loop in
+    leb-true _ _ (some-room _ _ (l .out) _ (l .inv .0) (r .before .has-room .ensures) (r .if2 .left))
 
 loop-less : tie.Need-loop-less Inv-loop μ-loop
 loop-less c =
