@@ -37,9 +37,11 @@ run-requires c κs = search needs
 
 put-machine-requires : tie.Need-put-machine-requires
 put-machine-requires c κs =
-    let c1 = c .before .before .before .before .before .before .before .before .before .before .before .before .before .before .before .before .before .before .before .before .before .before .before .before .before .before .before .before .before .before .before .before .before .before in
-    let c2 = c1 .before in
-    long _ (sym (c2 .lengths-ok .ensures) ∙ not-false (c2 .lengths-ok .result) (c1 .if1 .left))
+    let c1 = c .before .before .before .before .before .before .before .before .before .before .before .before in
+    let c2 = c1 .before .before .before .before .before .before .before .before .before .before .before .before in
+    let c3 = c2 .before .before .before .before .before .before .before .before .before .before in
+    let c4 = c3 .before in
+    long _ (sym (c4 .lengths-ok .ensures) ∙ not-false (c4 .lengths-ok .result) (c3 .if1 .left))
 
 same-length-5 : tie.Need-same-length-5
 same-length-5 c = search needs
@@ -81,9 +83,10 @@ returns-2 : tie.Need-returns-2
 unfolding runIn
 returns-2 c =
     let c1 = c .before .before .before .before .before .before .before .before in
-    let c2 = c1 .before .before .before .before .before .before .before .before .before .before .before .before .before .before .before .before .before .before .before .before .before in
-    let c3 = c2 .before .before .before .before .before .before .before .before .before in
-    run-back _ _ _ _ _ (c2 .run .result) _ _ (c3 .machine-of .ensures) (c1 .put-machine .ensures) (c2 .run .ensures)
+    let c2 = c1 .before .before .before .before .before .before .before .before .before .before .before in
+    let c3 = c2 .before .before .before .before .before .before .before .before .before .before in
+    let c4 = c3 .before .before .before .before .before .before .before .before .before in
+    run-back _ _ _ _ _ (c3 .run .result) _ _ (c4 .machine-of .ensures) (c1 .put-machine .ensures) (c3 .run .ensures)
 
 pub stirnfeld-run-spec : {M : Type 1} → statement M
 stirnfeld-run-spec =

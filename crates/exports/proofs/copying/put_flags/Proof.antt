@@ -29,8 +29,14 @@ loop-less c = search needs
 
 loop-again : tie.Need-loop-again Inv-loop μ-loop
 loop-again c =
-    let c1 = c .before .before .before in
-    (search needs, (length-set (c .before .before .loop .lent) _ _ ∙ c .before .before .loop .inv .1 .0, copy-turn (c1 .args .whole .now) (c .before .before .loop .lent) (c .before .before .loop .i) (search needs) (search needs) (c .before .before .loop .inv .1 .1)))
+    let c1 = c .before .before in
+    let l = c1 .loop in (
+      search needs,
+      (
+        length-set (l .lent) _ _ ∙ l .inv .1 .0,
+        copy-turn (c1 .before .args .whole .now) (l .lent) (l .i) (search needs) (search needs) (l .inv .1 .1),
+      ),
+    )
 
 same-length : tie.Need-same-length Inv-loop μ-loop
 same-length c = search needs

@@ -13,8 +13,13 @@ put-copies-requires-2 c κs = search needs
 
 put-flags-requires : tie.Need-put-flags-requires
 put-flags-requires c κs = (
-  c .before .before .before .before .before .before .before .before .before .before .before .before .before .before .before .before .before .before .before .before .before .before .before .before .before .pre .flags,
-  search (needs, c .before .before .before .before .before .before .before .before .before .before .before .before .before .before .before .before .before .before .before .before .before .before .before .before .before .good),
+  c .before .before .before .before .before .before .before .before .before .before .before .before .before
+      .before .before .before .before .before .before .before .before .before .before .before .before .pre .flags,
+  search (
+    needs,
+    c .before .before .before .before .before .before .before .before .before .before .before .before .before
+        .before .before .before .before .before .before .before .before .before .before .before .before .good,
+  ),
 )
 
 same-length : tie.Need-same-length
