@@ -11,7 +11,11 @@ use Rattle.pace.proofs.timing.told_by.Tie as tie
 
 cast-result : tie.Need-cast-result
 cast-result c =
-    (yes-nonNeg {z = toZ w64 (ofZ w64 (c .before .args .clock))} (leZ-yes (subst T (sym (c .if1 .taken)) tt)), rw (toZ-ofZ w64 (c .before .args .clock) (c .before .fits .clock)) (record { fits = lt-of-le-of-lt (natAbs-le (c .before .args .clock) (c .before .fits .clock .sfits)) (lit< tt) }))
+    let clock = c .before .args .clock in
+    let fits = c .before .fits .clock in (
+      yes-nonNeg {z = toZ w64 (ofZ w64 clock)} (leZ-yes (subst T (sym (c .if1 .taken)) tt)),
+      rw (toZ-ofZ w64 clock fits) (record { fits = lt-of-le-of-lt (natAbs-le clock (fits .sfits)) (lit< tt) }),
+    )
 
 returns : tie.Need-returns
 returns c = search needs
