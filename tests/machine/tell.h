@@ -4,7 +4,7 @@
 
 #include "job.h"
 
-/* As a script for the second program's machine2, where it can be one. */
+/* In the words of the second program's machine2, with remarks on what it cannot take. */
 void tell_job(const struct job *job);
 void tell_reply(const struct job *job, const struct reply *reply);
 
