@@ -105,7 +105,7 @@ fn next_of_word(entries: &Copies, p: usize, m: usize, i: usize, word: u8) -> usi
     next
 }
 
-// No entry before place from has the tag and the word.
+// No entry before `from` has the tag and the word.
 fn find_from(entries: &Copies, p: usize, n: usize, from: usize, tag: u8, word: u8) -> usize
     requires { ⌜ ((k : ℕ) → k < from → hasEntry (now entries) p tag word k ≡ false) ⌝ }
     ensures { λ r. ⌜ r ≡ findEntry (now (entries .entry)) p n tag word ⌝ }
@@ -171,8 +171,8 @@ pub fn own_entry(entries: &Copies, p: usize, n: usize, word: u8) -> Own
             at: n,
         };
     }
-    let j = p % 8 * 64 + i % 64;
-    let tag = entry::packed::tag_of(entries[j]);
+    let at = p % 8 * 64 + i % 64;
+    let tag = entry::packed::tag_of(entries[at]);
     if tag == TENTATIVE {
         return Own {
             tentative: true,

@@ -37,7 +37,7 @@ pub fn is_live(x: u64, word: u8) -> bool
     x / 4294967296 % 512 == 256 + (word as u64)
 }
 
-// With the tag gone it becomes invalid, with the tag kept NORMAL.
+// A copy whose tag is `gone` becomes invalid, one whose tag is `kept` NORMAL.
 fn ended(x: u64, gone: u8, kept: u8) -> u64
     ensures { λ r. ⌜ r ≡ pack (pick (eqb (unpack x .tag) gone) noEntry (pick (eqb (unpack x .tag) kept) (withTag (unpack x) NORMAL) (unpack x))) ⌝ }
 {

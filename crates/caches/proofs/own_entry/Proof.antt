@@ -10,11 +10,11 @@ live-entry-requires c κs = search needs
 returns : tie.Need-returns
 returns c = sym (own-none _ _ _ _ _ (c .before .live-entry .ensures) (c .if1 .taken))
 
-mul-j : tie.Need-mul-j
-mul-j c = search needs
+mul-at : tie.Need-mul-at
+mul-at c = search needs
 
-add-j : tie.Need-add-j
-add-j c = search needs
+add-at : tie.Need-add-at
+add-at c = search needs
 
 mul-tag-of : tie.Need-mul-tag-of
 mul-tag-of c = search needs
@@ -56,8 +56,8 @@ own-entry-spec =
     (tie.spec
     live-entry-requires
     returns
-    mul-j
-    add-j
+    mul-at
+    add-at
     mul-tag-of
     element-copy-out-tag-of
     tag-of-requires
