@@ -8,7 +8,7 @@ use native.Mathlib.Omega.{arith}
 use native.Mathlib.Decide.{ℕ-discrete}
 use borrow.Author.Tests.{eq-eqb, ne-eqb, lt-ltb, le-ltb}
 use lib.Dec.{eqb, ltb}
-use Rattle.laws.specs.Choice.{pick, both, either}
+use Rattle.laws.specs.Choice.{pick, both, either, both-left, both-right}
 use Rattle.laws.specs.Search.{firstFrom, first-has, first-not, none-of}
 use Rattle.entry.specs.Numbers.{NORMAL, TENTATIVE}
 use Rattle.machine.specs.State.{copyAt}
@@ -25,15 +25,6 @@ not-right : (a b c : Bool) → both (either a b) c ≡ false → both b c ≡ fa
 not-right true true c e = e
 not-right false true c e = e
 not-right a false c e = refl
-
-both-right : (a c : Bool) → both a c ≡ true → c ≡ true
-both-right true c e = e
-both-right false true e = refl
-both-right false false e = e
-
-both-left : (a c : Bool) → both a c ≡ true → a ≡ true
-both-left true c e = refl
-both-left false c e = e
 
 either-tag : (t : ℕ) → t ≢ TENTATIVE → either (eqb t NORMAL) (eqb t TENTATIVE) ≡ true → t ≡ NORMAL
 either-tag t ne e = by (ℕ-discrete t NORMAL)

@@ -7,7 +7,7 @@ use native.Mathlib.Omega.{arith}
 use lib.Dec.{eqb}
 use lib.ListN.{getD}
 use Rattle.entry.specs.Packing.{unpack}
-use Rattle.laws.specs.Choice.{both, either}
+use Rattle.laws.specs.Choice.{both, either, both-not}
 use Rattle.entry.specs.Numbers.{NORMAL, TENTATIVE}
 use Rattle.machine.specs.State.{copyAt}
 use Rattle.machine.specs.Own.{hasEntry, hasLive}
@@ -19,10 +19,6 @@ ofWord es p word i = eqb (copyAt es p i .word) word
 pub other-word : (es : List ℕ) (p word i j : ℕ) (b : Bool) → b ≡ eqb (unpack (getD es j 0) .word) word → b ≡ false →
     i < 64 → j ≡ p % 8 * 64 + i → ofWord es p word i ≡ false
 other-word es p word i j b e f h at = let k : p % 8 * 64 + i % 64 ≡ j = omega arith in rw k (sym e ∙ f)
-
-both-not : (a b : Bool) → b ≡ false → both a b ≡ false
-both-not true b e = e
-both-not false b e = refl
 
 pub no-entry : (es : List ℕ) (p tag word i : ℕ) → ofWord es p word i ≡ false → hasEntry es p tag word i ≡ false
 no-entry es p tag word i e = both-not (eqb (copyAt es p i .tag) tag) (ofWord es p word i) e

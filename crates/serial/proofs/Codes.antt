@@ -15,26 +15,6 @@ use Rattle.theory.proofs.Cache.{slotNormal, slotBackup, slotTentative, blank, f
 use Rattle.serial.proofs.Decode.{stateOf, slotBy, slotOf, lineOf}
 use Rattle.serial.proofs.Frame.{EntryFits, Fits}
 
-pub both-true : (x y : Bool) → x ≡ true → y ≡ true → both x y ≡ true
-both-true true y h k = k
-both-true false y h k = h
-
-pub both-left : (x y : Bool) → both x y ≡ true → x ≡ true
-both-left true y h = refl
-both-left false y h = h
-
-pub both-right : (x y : Bool) → both x y ≡ true → y ≡ true
-both-right true y h = h
-both-right false y h = absurd (true≢false (sym h))
-
-pub either-left : (x y : Bool) → x ≡ true → either x y ≡ true
-either-left true y h = refl
-either-left false y h = absurd (true≢false (sym h))
-
-pub either-right : (x y : Bool) → y ≡ true → either x y ≡ true
-either-right true y h = refl
-either-right false y h = h
-
 pub pick-no : {A : Type 0} (b : Bool) (x y : A) → b ≡ false → pick b x y ≡ y
 pick-no true x y h = absurd (true≢false h)
 pick-no false x y h = refl

@@ -6,7 +6,7 @@ use native.Mathlib.Nat.{mod-lt}
 use native.Mathlib.Omega.{arith}
 use lib.Dec.{eqb}
 use borrow.Author.Tests.{eqb-true, eqb-false, eq-eqb, not-true}
-use Rattle.laws.specs.Choice.{both}
+use Rattle.laws.specs.Choice.{both, both-true, both-left, both-right}
 use Rattle.laws.specs.Search.{firstFrom, first-has, first-not}
 use Rattle.entry.specs.declared.Entry.{Entry}
 use Rattle.entry.specs.Numbers.{INVALID, DIRTY, NORMAL, TENTATIVE}
@@ -21,7 +21,7 @@ use Rattle.theory.specs.Bus.{isNormal, isRegular}
 use Rattle.serial.proofs.Decode.{stateOf, slotOf, lineOf, decoded, seen, read-at}
 use Rattle.serial.proofs.Frame.{LineFits, EntryFits, Fits, Size}
 use Rattle.serial.proofs.Set.{Fit}
-use Rattle.serial.proofs.Codes.{both-true, both-left, both-right, normal-slot, tentative-slot, filled-line, slot-normal, slot-tentative}
+use Rattle.serial.proofs.Codes.{normal-slot, tentative-slot, filled-line, slot-normal, slot-tentative}
 
 pub home-in : {d : Dims} → Size d → (w : ℕ) → home d w < d .lines
 unfolding home

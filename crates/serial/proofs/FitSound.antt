@@ -8,6 +8,7 @@ use native.Mathlib.Omega.{arith}
 use lib.Dec.{eqb}
 use lib.ListN.{getD}
 use borrow.Author.Tests.{eq-eqb, ne-eqb, eqb-false, lt-ltb, le-leb, not-true}
+use Rattle.laws.specs.Choice.{both-true}
 use Rattle.entry.specs.declared.Entry.{Entry}
 use Rattle.entry.specs.Numbers.{INVALID, RESERVED, DIRTY, NORMAL, BACKUP, TENTATIVE}
 use Rattle.entry.specs.Packing.{noEntry}
@@ -25,7 +26,7 @@ use Rattle.theory.proofs.Settled.{Coherent}
 use Rattle.serial.proofs.Decode.{stateOf, lineOf, decoded, seen}
 use Rattle.serial.proofs.Frame.{LineFits, EntryFits, Fits}
 use Rattle.serial.proofs.Set.{Fit}
-use Rattle.serial.proofs.Codes.{both-true, above-code, dirty-code, normal-slot, backup-slot, tentative-slot, filled-line, tagged-fits}
+use Rattle.serial.proofs.Codes.{above-code, dirty-code, normal-slot, backup-slot, tentative-slot, filled-line, tagged-fits}
 use Rattle.serial.proofs.Find.{slot-at, line-at, has-regular, has-normal, has-tentative}
 use Rattle.serial.proofs.Under.{tentative-entry, has-backup, code-below}
 

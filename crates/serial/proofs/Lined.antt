@@ -8,7 +8,7 @@ use native.Mathlib.Omega.{arith}
 use lib.Dec.{eqb}
 use lib.ListN.{getD}
 use borrow.Author.Tests.{eqb-true}
-use Rattle.laws.specs.Choice.{pick}
+use Rattle.laws.specs.Choice.{pick, both-right}
 use Rattle.entry.specs.declared.Entry.{Entry}
 use Rattle.entry.specs.Numbers.{INVALID}
 use Rattle.entry.specs.Packing.{noEntry, InRange, unpack-range}
@@ -29,7 +29,7 @@ use Rattle.theory.proofs.Refine.{same-refl}
 use Rattle.serial.proofs.Decode.{stateOf, slotOf, lineOf, decoded, seen, read-same}
 use Rattle.serial.proofs.Frame.{LineFits, Fits, Size, line-word}
 use Rattle.serial.proofs.Set.{Fit, lineOn, Memory, back-at, back-here, set-line, line-fit}
-use Rattle.serial.proofs.Codes.{both-right, filled-line}
+use Rattle.serial.proofs.Codes.{filled-line}
 use Rattle.serial.proofs.Find.{home-in, line-fits, line-at, line-filled, has-regular, no-regular}
 use Rattle.serial.proofs.Others.{Own}
 

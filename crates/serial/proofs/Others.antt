@@ -6,7 +6,7 @@ use Prim.Native.Nat.{ℕ, zero, suc, _+_, _≤_, _<_}
 use native.Mathlib.Omega.{arith}
 use lib.Dec.{eqb, ltb, leb}
 use borrow.Author.Tests.{eqb-true, eqb-false, ne-eqb, ltb-true, ltb-false, not-true}
-use Rattle.laws.specs.Choice.{pick, both, either}
+use Rattle.laws.specs.Choice.{pick, both, either, both-left, both-right}
 use Rattle.laws.specs.Fold.{foldRange}
 use Rattle.laws.specs.Search.{firstFrom, first-has, first-not}
 use Rattle.entry.specs.Numbers.{RESERVED, BACKUP, TENTATIVE}
@@ -24,7 +24,7 @@ use Rattle.serial.proofs.Decode.{seen}
 use Rattle.serial.proofs.Set.{Fit}
 use Rattle.serial.proofs.Over.{over-else, range-ends}
 use Rattle.serial.proofs.Ends.{rollback-fit, rollback-is}
-use Rattle.serial.proofs.Codes.{both-left, both-right, above-code, tagged-fits}
+use Rattle.serial.proofs.Codes.{above-code, tagged-fits}
 use Rattle.serial.proofs.Find.{found-tag, found-word, entry-fits, has-tentative, no-tentative}
 
 -- READ and T_READ share a word, the other cycles take it

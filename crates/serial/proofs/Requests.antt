@@ -7,7 +7,7 @@ use native.Mathlib.Decide.{ℕ-discrete, decLt}
 use native.Mathlib.Omega.{arith}
 use lib.Dec.{eqb, ltb}
 use borrow.Author.Tests.{eqb-true, eqb-false, eq-eqb, ltb-true, ltb-false, le-ltb}
-use Rattle.laws.specs.Choice.{pick, both, either}
+use Rattle.laws.specs.Choice.{pick, both, either, both-true, either-left, either-right}
 use Rattle.laws.specs.Search.{firstFrom, first-has, first-not}
 use Rattle.entry.specs.declared.Entry.{Entry}
 use Rattle.entry.specs.Numbers.{INVALID, NORMAL, TENTATIVE, READ, RFO, WRITE, T-READ, T-RFO}
@@ -26,7 +26,7 @@ use Rattle.theory.proofs.Refine.{same-refl}
 use Rattle.theory.proofs.Serve.{cleared, refuses-roll, refuses-none}
 use Rattle.serial.proofs.Decode.{slotOf, lineOf, decoded, seen, read-out}
 use Rattle.serial.proofs.Set.{Fit, entryOn, lineOn}
-use Rattle.serial.proofs.Codes.{both-true, either-left, either-right, pick-no, slot-normal, slot-tentative, tagged-fits}
+use Rattle.serial.proofs.Codes.{pick-no, slot-normal, slot-tentative, tagged-fits}
 use Rattle.serial.proofs.Find.{entry-fits, slot-at, no-regular, slot-normal-at, slot-tentative-at}
 use Rattle.serial.proofs.Others.{Cycle, Own, own-refl, own-trans, each, is-free, roll-others}
 use Rattle.serial.proofs.Snoop.{left, snooped-is, Asks, refuses-left, Asked, nothing-asked}

@@ -7,7 +7,7 @@ use native.Mathlib.Decide.{decLt}
 use native.Mathlib.Omega.{arith}
 use lib.Dec.{eqb, ltb}
 use borrow.Author.Tests.{eqb-true, eq-eqb, ne-eqb, ltb-true, ltb-false, lt-ltb, le-ltb}
-use Rattle.laws.specs.Choice.{pick, both, either}
+use Rattle.laws.specs.Choice.{pick, both, either, both-true, both-left, both-right, either-left, either-right}
 use Rattle.laws.specs.Search.{firstFrom, first-has, first-not}
 use Rattle.entry.specs.declared.Entry.{Entry}
 use Rattle.entry.specs.Numbers.{INVALID, DIRTY, NORMAL, BACKUP}
@@ -23,7 +23,7 @@ use Rattle.theory.proofs.Settled.{baseData, owns-data}
 use Rattle.theory.specs.Bus.{isRegular}
 use Rattle.serial.proofs.Decode.{stateOf, decoded, seen}
 use Rattle.serial.proofs.Set.{Fit}
-use Rattle.serial.proofs.Codes.{both-true, both-left, both-right, either-left, either-right, dirty-code, slot-normal}
+use Rattle.serial.proofs.Codes.{dirty-code, slot-normal}
 use Rattle.serial.proofs.Find.{slot-at, has-regular, no-regular, has-normal}
 use Rattle.serial.proofs.Requests.{beyond}
 use Rattle.serial.proofs.Under.{behind, has-backup}

@@ -5,12 +5,11 @@ use Prim.Native.Nat.{ℕ, _≤_, _<_}
 use native.Mathlib.Omega.{arith}
 use lib.Dec.{eqb, leb}
 use borrow.Author.Tests.{eqb-true, leb-true}
-use Rattle.laws.specs.Choice.{pick, either}
+use Rattle.laws.specs.Choice.{pick, either, both-left, both-right}
 use Rattle.machine.specs.declared.Dims.{Dims}
 use Rattle.machine.specs.Making.{within, powerOfTwo, dimsRefusal}
 use Rattle.machine.specs.Refusals.{accepted, badProcessors, badWords, badLines, badEntries}
 use Rattle.serial.proofs.Frame.{Size}
-use Rattle.serial.proofs.Codes.{both-left, both-right}
 
 within-range : (n most : ℕ) → within n most ≡ true → (0 < n) × (n ≤ most)
 within-range n most h = (

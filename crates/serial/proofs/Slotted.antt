@@ -9,7 +9,7 @@ use native.Mathlib.Omega.{arith}
 use lib.Dec.{eqb, ltb}
 use lib.ListN.{getD}
 use borrow.Author.Tests.{eqb-true, eqb-false, not-true}
-use Rattle.laws.specs.Choice.{pick}
+use Rattle.laws.specs.Choice.{pick, both-left, both-right}
 use Rattle.laws.specs.Search.{firstFrom, first-has}
 use Rattle.entry.specs.declared.Entry.{Entry}
 use Rattle.entry.specs.Numbers.{INVALID, NORMAL, BACKUP, TENTATIVE}
@@ -25,7 +25,7 @@ use Rattle.theory.specs.Bus.{Freed, empty}
 use Rattle.serial.proofs.Decode.{stateOf, slotOf, decoded, seen, copy-here, copy-else}
 use Rattle.serial.proofs.Frame.{EntryFits, Fits, fits-word}
 use Rattle.serial.proofs.Set.{Fit, Memory, back-at, back-here, set-slot, entry-fit}
-use Rattle.serial.proofs.Codes.{both-left, both-right, normal-slot, backup-slot}
+use Rattle.serial.proofs.Codes.{normal-slot, backup-slot}
 use Rattle.serial.proofs.Find.{entry-fits, slot-at}
 use Rattle.serial.proofs.Lined.{none-range, back-none}
 

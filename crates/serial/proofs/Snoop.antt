@@ -7,7 +7,7 @@ use native.Mathlib.Omega.{arith}
 use lib.Dec.{eqb}
 use lib.ListN.{getD}
 use borrow.Author.Tests.{eqb-true, eqb-false, not-true, leb-false}
-use Rattle.laws.specs.Choice.{pick, either}
+use Rattle.laws.specs.Choice.{pick, either, both-left, both-right}
 use Rattle.entry.specs.declared.Entry.{Entry}
 use Rattle.entry.specs.Numbers.{INVALID, VALID, RESERVED, DIRTY, NORMAL, TENTATIVE}
 use Rattle.entry.specs.Packing.{noEntry, InRange, same-entry}
@@ -27,7 +27,7 @@ use Rattle.theory.proofs.Refine.{same-refl}
 use Rattle.serial.proofs.Decode.{stateOf, slotOf, lineOf, decoded, seen, copy-else}
 use Rattle.serial.proofs.Frame.{LineFits, EntryFits, Fits, fits-word, line-word}
 use Rattle.serial.proofs.Set.{Fit, entryOn, lineOn, Memory, back-at, back-here, set-slot, entry-fit}
-use Rattle.serial.proofs.Codes.{both-left, both-right, normal-slot, above-code, tagged-fits}
+use Rattle.serial.proofs.Codes.{normal-slot, above-code, tagged-fits}
 use Rattle.serial.proofs.Find.{home-in, backing, entry-fits, line-fits, line-filled}
 use Rattle.serial.proofs.Find.{has-regular, slot-at, slot-normal-at, has-normal, has-tentative}
 use Rattle.serial.proofs.Lined.{none-range, lined-at, lined-fit, lined-blank, lined-regular}

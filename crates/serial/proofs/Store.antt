@@ -8,7 +8,7 @@ use lib.Dec.{eqb, ltb}
 use lib.ListN.{set}
 use lib.Seq.{getD-set-same}
 use borrow.Author.Tests.{eqb-true, eqb-false, ltb-true, ltb-false, le-leb, not-true}
-use Rattle.laws.specs.Choice.{pick}
+use Rattle.laws.specs.Choice.{pick, both-left}
 use Rattle.entry.specs.declared.Entry.{Entry}
 use Rattle.entry.specs.declared.answer.Answer.the-variants.{Done}
 use Rattle.entry.specs.Numbers.{INVALID, VALID, RESERVED, DIRTY, NORMAL, TENTATIVE, RFO, WRITE}
@@ -36,7 +36,7 @@ use Rattle.serial.proofs.Decode.{stateOf, decoded, seen}
 use Rattle.serial.proofs.Frame.{LineFits, Fits, fits-word}
 use Rattle.serial.proofs.Set.{Fit, Memory, memory-same, memory-set, back-at, back-here, set-slot, entry-fit}
 use Rattle.serial.proofs.Ends.{Does, rollback-fit, rollback-is}
-use Rattle.serial.proofs.Codes.{both-left, above-code}
+use Rattle.serial.proofs.Codes.{above-code}
 use Rattle.serial.proofs.Find.{home-in, is-none, found-tag, found-word, entry-fits, line-filled, has-regular}
 use Rattle.serial.proofs.Find.{no-regular, slot-normal-at, has-tentative, no-normal, no-tentative}
 use Rattle.serial.proofs.Requests.{Served, by-force, is-RFO, is-WRITE}

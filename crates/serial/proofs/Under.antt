@@ -6,6 +6,7 @@ use Prim.Native.Nat.{ℕ, zero, suc, _≤_, _<_}
 use native.Mathlib.Omega.{arith}
 use lib.Dec.{eqb}
 use borrow.Author.Tests.{eq-eqb, ne-eqb}
+use Rattle.laws.specs.Choice.{both-true}
 use Rattle.entry.specs.declared.Entry.{Entry}
 use Rattle.entry.specs.Numbers.{INVALID, DIRTY, NORMAL, BACKUP, TENTATIVE}
 use Rattle.machine.specs.declared.Dims.{Dims}
@@ -19,7 +20,7 @@ use Rattle.theory.proofs.Looks.{normal-seen, tentative-seen, regular-seen}
 use Rattle.theory.proofs.Slots.{look-tentative}
 use Rattle.serial.proofs.Decode.{stateOf, decoded, seen}
 use Rattle.serial.proofs.Set.{Fit}
-use Rattle.serial.proofs.Codes.{both-true, backup-slot, tagged-fits, Is, slot-normal, slot-tentative}
+use Rattle.serial.proofs.Codes.{backup-slot, tagged-fits, Is, slot-normal, slot-tentative}
 use Rattle.serial.proofs.Find.{home-in, entry-fits, slot-at, line-at, has-regular}
 use Rattle.serial.proofs.SoundFit.{line-says, backup-says}
 

@@ -1,14 +1,14 @@
 -- What the test says of a state, place by place, both ways. Assumes nothing.
 use mathlib.Core.Path.{_≡_, refl}
 use mathlib.Core.Logic.{_≢_}
-use mathlib.Core.Bool.{Bool, true, false, false≢true}
+use mathlib.Core.Bool.{Bool, true, false}
 use mathlib.Core.List.{List}
 use Prim.Native.Nat.{ℕ, _+_, _/_, _%_, _<_, _≤_}
 use native.Mathlib.Omega.{arith}
 use lib.Dec.{leb}
 use lib.ListN.{length, getD}
 use borrow.Author.Tests.{leb-true}
-use Rattle.laws.specs.Choice.{pick, both}
+use Rattle.laws.specs.Choice.{pick, both, both-right}
 use Rattle.entry.specs.declared.Entry.{Entry}
 use Rattle.entry.specs.Numbers.{INVALID, DIRTY, BACKUP, TENTATIVE}
 use Rattle.entry.specs.Packing.{packedEnd, unpack}
@@ -149,16 +149,12 @@ pub few-words : (d : Dims) → dimsRefusal d ≡ accepted → d .words ≤ 256
 unfolding dimsRefusal
 few-words d e =
     leb-true (d .words) 256
-    (second (leb 1 (d .words)) (leb (d .words) 256) (passed (within (d .processors) 8) (within (d .words) 256) _ e))
+    (both-right (leb 1 (d .words)) (leb (d .words) 256) (passed (within (d .processors) 8) (within (d .words) 256) _ e))
   where
     passed : (a b : Bool) (n : ℕ) → pick a (pick b n 2) 1 ≡ 0 → b ≡ true
     passed true true n e = refl
     passed true false n e = absurd (omega arith)
     passed false b n e = absurd (omega arith)
-
-    second : (a b : Bool) → both a b ≡ true → b ≡ true
-    second true b e = e
-    second false b e = absurd (false≢true e)
 
 pub tested : (d : Dims) (s : Caches) → Iff (soundOf d s) (Tested d s)
 unfolding soundOf flagsOk memoryOk copiesOk linesOk entriesOk
