@@ -12,9 +12,12 @@ use Rattle.caches.proofs.home.Reads as home-reads
 use Rattle.caches.proofs.holds as holds
 use Rattle.caches.proofs.holds.Kinds as holds-kinds
 use Rattle.caches.proofs.holds.Reads as holds-reads
-use Rattle.caches.proofs.find_entry as find-entry
-use Rattle.caches.proofs.find_entry.Kinds as find-entry-kinds
-use Rattle.caches.proofs.find_entry.Reads as find-entry-reads
+use Rattle.caches.proofs.find_tentative as find-tentative
+use Rattle.caches.proofs.find_tentative.Kinds as find-tentative-kinds
+use Rattle.caches.proofs.find_tentative.Reads as find-tentative-reads
+use Rattle.caches.proofs.find_normal as find-normal
+use Rattle.caches.proofs.find_normal.Kinds as find-normal-kinds
+use Rattle.caches.proofs.find_normal.Reads as find-normal-reads
 use Rattle.caches.proofs.live_entry as live-entry
 use Rattle.caches.proofs.live_entry.Kinds as live-entry-kinds
 use Rattle.caches.proofs.live_entry.Reads as live-entry-reads
@@ -47,10 +50,15 @@ pub holds-unique : (κs : Lfts 0) (a : ArgsD holds.signature κs) (r r' : ResD h
     r ≡ r'
 holds-unique κs a r r' s s' p q = p ∙ sym q
 
-pub find-entry-unique : (κs : Lfts 1) (a : ArgsD find-entry.signature κs) (r r' : ResD find-entry.signature κs)
-    (s s' : AtExit (endedOf 1 find-entry-kinds.ps find-entry-kinds.r) κs) → find-entry-reads.Post κs a r s → find-entry-reads.Post κs a r' s' →
+pub find-tentative-unique : (κs : Lfts 1) (a : ArgsD find-tentative.signature κs) (r r' : ResD find-tentative.signature κs)
+    (s s' : AtExit (endedOf 1 find-tentative-kinds.ps find-tentative-kinds.r) κs) → find-tentative-reads.Post κs a r s → find-tentative-reads.Post κs a r' s' →
     r ≡ r'
-find-entry-unique κs a r r' s s' p q = p ∙ sym q
+find-tentative-unique κs a r r' s s' p q = p ∙ sym q
+
+pub find-normal-unique : (κs : Lfts 1) (a : ArgsD find-normal.signature κs) (r r' : ResD find-normal.signature κs)
+    (s s' : AtExit (endedOf 1 find-normal-kinds.ps find-normal-kinds.r) κs) → find-normal-reads.Post κs a r s → find-normal-reads.Post κs a r' s' →
+    r ≡ r'
+find-normal-unique κs a r r' s s' p q = p ∙ sym q
 
 pub live-entry-unique : (κs : Lfts 1) (a : ArgsD live-entry.signature κs) (r r' : ResD live-entry.signature κs)
     (s s' : AtExit (endedOf 1 live-entry-kinds.ps live-entry-kinds.r) κs) → live-entry-reads.Post κs a r s → live-entry-reads.Post κs a r' s' →

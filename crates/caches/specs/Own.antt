@@ -1,12 +1,19 @@
--- A processor's own entry of a word, in the order in which a step looks for it.
-use mathlib.Core.Bool.{Bool}
+-- What a search for a word's entries looks at, and a processor's own entry of a word, in the order in which a step looks for it.
+use mathlib.Core.Bool.{Bool, not}
 use mathlib.Core.List.{List}
 use Prim.Native.Nat.{ℕ}
-use lib.Dec.{ltb}
-use Rattle.laws.specs.Choice.{pick}
-use Rattle.entry.specs.Numbers.{NORMAL, TENTATIVE}
+use lib.Dec.{eqb, ltb}
+use Rattle.laws.specs.Choice.{pick, both}
+use Rattle.entry.specs.declared.Entry.{Entry}
+use Rattle.entry.specs.Numbers.{INVALID, NORMAL, TENTATIVE}
 use Rattle.machine.specs.Own.{findEntry}
 use Rattle.caches.specs.declared.Own.{Own}
+
+abbrev pub used : Entry → Bool
+used e = not (eqb (e .tag) INVALID)
+
+abbrev pub usedFor : Entry → ℕ → Bool
+usedFor e word = both (used e) (eqb (e .word) word)
 
 abbrev pub own : Bool → ℕ → Own
 own b i = record { tentative = b; at = i }

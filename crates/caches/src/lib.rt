@@ -11,16 +11,18 @@ use machine::Dims;
 use machine::Flags;
 use machine::Memory;
 ghost use mathlib.Core.Path.{_≡_};
-ghost use mathlib.Core.Bool.{false};
+ghost use mathlib.Core.Logic.{_≢_};
+ghost use mathlib.Core.Bool.{true, false};
 ghost use Prim.Native.Nat.{ℕ, _+_, _<_, _≤_};
 ghost use lib.Dec.{eqb, ltb};
 ghost use Rattle.laws.specs.Choice.{pick};
+ghost use Rattle.entry.specs.Numbers.{INVALID, NORMAL, TENTATIVE};
 ghost use Rattle.entry.specs.Packing.{noEntry};
 ghost use Rattle.machine.specs.State.{copyAt, withCopy};
 ghost use Rattle.machine.specs.Own.{home, holds, hasEntry, findEntry, lowest, freeSlot, liveEntry};
 ghost use Rattle.machine.specs.Rollback.{rolledEntries, statusDown, committedEntries};
 ghost use Rattle.machine.specs.Bus.{writtenBack, writes};
-ghost use Rattle.caches.specs.Own.{ownEntry};
+ghost use Rattle.caches.specs.Own.{used, usedFor, ownEntry};
 
 // Whether it is a tentative entry; its place is the number of entries where there is none.
 pub struct Own {
@@ -82,14 +84,55 @@ fn skip_words(entries: &Copies, p: usize, i: usize, word: u8) -> usize
     i + 4
 }
 
-// Most entries are not of the word that is looked for, but invalid ones are of word 0. No place from i to before the answer has the word.
+// Whether four places from i on are 0, as an invalid entry is that a step left.
+fn four_unused(entries: &Copies, p: usize, i: usize) -> bool
+    requires { ⌜ i + 4 ≤ 64 ⌝ }
+    ensures { λ r. ⌜ (r ≡ true → (k : ℕ) → i ≤ k → k < i + 4 → used (copyAt (now (entries .entry)) p k) ≡ false) ⌝ }
+{
+    let j = p % 8 * 64 + i;
+    if entries[j] != 0 {
+        return false;
+    }
+    let j1 = j + 1;
+    if entries[j1] != 0 {
+        return false;
+    }
+    let j2 = j + 2;
+    if entries[j2] != 0 {
+        return false;
+    }
+    let j3 = j + 3;
+    entries[j3] == 0
+}
+
+// Every place from i to before the answer is invalid.
+fn next_used(entries: &Copies, p: usize, m: usize, i: usize) -> usize
+    requires { ⌜ (i ≤ m) × (m ≤ 64) ⌝ }
+    ensures { λ r. ⌜ ((k : ℕ) → i ≤ k → k < r → used (copyAt (now (entries .entry)) p k) ≡ false) ⌝ }
+    ensures { λ r. ⌜ i ≤ r ⌝ }
+{
+    let mut at: usize = i;
+    let next = loop {
+        if at + 4 > m {
+            break at;
+        }
+        if !four_unused(entries, p, at) {
+            break at;
+        }
+        at += 4;
+    };
+    next
+}
+
+// Most entries are not of the word that is looked for, but invalid ones are of word 0. No place from i to before the answer is valid and has
+// the word.
 fn next_of_word(entries: &Copies, p: usize, m: usize, i: usize, word: u8) -> usize
     requires { ⌜ (i ≤ m) × (m ≤ 64) ⌝ }
-    ensures { λ r. ⌜ ((k : ℕ) → i ≤ k → k < r → eqb (copyAt (now (entries .entry)) p k .word) word ≡ false) ⌝ }
+    ensures { λ r. ⌜ ((k : ℕ) → i ≤ k → k < r → usedFor (copyAt (now (entries .entry)) p k) word ≡ false) ⌝ }
     ensures { λ r. ⌜ i ≤ r ⌝ }
 {
     if word == 0 {
-        return i;
+        return next_used(entries, p, m, i);
     }
     let mut at: usize = i;
     let next = loop {
@@ -107,6 +150,7 @@ fn next_of_word(entries: &Copies, p: usize, m: usize, i: usize, word: u8) -> usi
 
 // No entry before `from` has the tag and the word.
 fn find_from(entries: &Copies, p: usize, n: usize, from: usize, tag: u8, word: u8) -> usize
+    requires { ⌜ tag ≢ INVALID ⌝ }
     requires { ⌜ ((k : ℕ) → k < from → hasEntry (now entries) p tag word k ≡ false) ⌝ }
     ensures { λ r. ⌜ r ≡ findEntry (now (entries .entry)) p n tag word ⌝ }
 {
@@ -130,10 +174,16 @@ fn find_from(entries: &Copies, p: usize, n: usize, from: usize, tag: u8, word: u
     at
 }
 
-pub fn find_entry(entries: &Copies, p: usize, n: usize, tag: u8, word: u8) -> usize
-    ensures { λ r. ⌜ r ≡ findEntry (now (entries .entry)) p n tag word ⌝ }
+pub fn find_tentative(entries: &Copies, p: usize, n: usize, word: u8) -> usize
+    ensures { λ r. ⌜ r ≡ findEntry (now (entries .entry)) p n TENTATIVE word ⌝ }
 {
-    find_from(entries, p, n, 0, tag, word)
+    find_from(entries, p, n, 0, TENTATIVE, word)
+}
+
+pub fn find_normal(entries: &Copies, p: usize, n: usize, word: u8) -> usize
+    ensures { λ r. ⌜ r ≡ findEntry (now (entries .entry)) p n NORMAL word ⌝ }
+{
+    find_from(entries, p, n, 0, NORMAL, word)
 }
 
 pub fn live_entry(entries: &Copies, p: usize, n: usize, word: u8) -> usize

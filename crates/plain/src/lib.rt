@@ -191,7 +191,7 @@ pub fn load(
         return hit(tentative.data);
     }
     caches::rollback(entries, flags, p, d.entries);
-    let normal = caches::find_entry(entries, p, d.entries, NORMAL, word);
+    let normal = caches::find_normal(entries, p, d.entries, word);
     load_on(memory, lines, entries, flags, d, p, word, normal)
 }
 
@@ -203,7 +203,7 @@ fn roll_own(entries: &mut Copies, flags: &mut Flags, d: Dims, p: usize, word: u8
     let own = caches::own_entry(entries, p, d.entries, word);
     if own.tentative {
         caches::rollback(entries, flags, p, d.entries);
-        return caches::find_entry(entries, p, d.entries, NORMAL, word);
+        return caches::find_normal(entries, p, d.entries, word);
     }
     own.at
 }

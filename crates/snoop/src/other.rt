@@ -127,7 +127,7 @@ fn against(e: Entry, cycle: u8) -> bool
 fn opposing(entries: &Copies, n: usize, word: u8, cycle: u8, q: usize) -> bool
     ensures { λ r. ⌜ ((d : Dims) → d .entries ≡ n → r ≡ opposes d word cycle q (now (entries .entry))) ⌝ }
 {
-    let i = caches::find_entry(entries, q, n, TENTATIVE, word);
+    let i = caches::find_tentative(entries, q, n, word);
     if i >= n {
         return false;
     }

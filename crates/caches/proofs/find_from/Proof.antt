@@ -23,7 +23,7 @@ reach-requires : tie.Need-reach-requires Inv-loop μ-loop
 reach-requires c κs = search needs
 
 loop-holds : tie.Need-loop-holds Inv-loop μ-loop
-loop-holds c = c .before .pre
+loop-holds c = c .before .pre .1
 
 next-of-word-requires : tie.Need-next-of-word-requires Inv-loop μ-loop
 next-of-word-requires c κs = (search needs, c .before .before .reach .ensures .1)
@@ -49,12 +49,13 @@ loop-less c = search needs
 loop-again : tie.Need-loop-again Inv-loop μ-loop
 loop-again c =
     let x = c .before .before .before .before .before .before .before .before .args in
+    let ne = c .before .before .before .before .before .before .before .before .pre .0 in
     let s = c .before .before .before .before .before .before .loop in
     let w = c .before .before .before .before .next-of-word in
     let e : w .result % 64 ≡ w .result = search needs in
     let es = now (x .entries) in
     let p = hasEntry es (x .p) (x .tag) (x .word) in
-    let o = none-on p 0 (s .i) (w .result) (λ k a b. s .inv k b) (λ k a b. no-entry es (x .p) (x .tag) (x .word) k (w .ensures .0 k a b)) in
+    let o = none-on p 0 (s .i) (w .result) (λ k a b. s .inv k b) (λ k a b. no-entry es (x .p) (x .tag) (x .word) k ne (w .ensures .0 k a b)) in
     λ k a. none-next p 0 (w .result) (w .result + 1) o (rw e (sym (c .before .is-entry .ensures) ∙ c .if3 .left)) (omega arith) k (omega arith) a
 
 returns : tie.Need-returns Inv-loop μ-loop
@@ -68,25 +69,27 @@ returns-2 : tie.Need-returns-2 Inv-loop μ-loop
 unfolding findEntry
 returns-2 c =
     let x = c .before .before .before .before .before .args in
+    let ne = c .before .before .before .before .before .pre .0 in
     let r = c .before .before .before .before .reach in
     let s = c .before .before .before .loop in
     let w = c .before .next-of-word in
     let es = now (x .entries) in
     let p = hasEntry es (x .p) (x .tag) (x .word) in
-    let o = none-on p 0 (s .i) (w .result) (λ k a b. s .inv k b) (λ k a b. no-entry es (x .p) (x .tag) (x .word) k (w .ensures .0 k a b)) in
+    let o = none-on p 0 (s .i) (w .result) (λ k a b. s .inv k b) (λ k a b. no-entry es (x .p) (x .tag) (x .word) k ne (w .ensures .0 k a b)) in
     sym (round-end p _ _ (r .ensures .0) (λ k. let e : k % 64 % 64 ≡ k % 64 = omega arith in rw e) (w .result) (c .if2 .taken) o)
 
 returns-3 : tie.Need-returns-3 Inv-loop μ-loop
 unfolding findEntry
 returns-3 c =
     let x = c .before .before .before .before .before .before .before .before .args in
+    let ne = c .before .before .before .before .before .before .before .before .pre .0 in
     let r = c .before .before .before .before .before .before .before .reach in
     let s = c .before .before .before .before .before .before .loop in
     let w = c .before .before .before .before .next-of-word in
     let e : w .result % 64 ≡ w .result = search needs in
     let es = now (x .entries) in
     let p = hasEntry es (x .p) (x .tag) (x .word) in
-    let o = none-on p 0 (s .i) (w .result) (λ k a b. s .inv k b) (λ k a b. no-entry es (x .p) (x .tag) (x .word) k (w .ensures .0 k a b)) in
+    let o = none-on p 0 (s .i) (w .result) (λ k a b. s .inv k b) (λ k a b. no-entry es (x .p) (x .tag) (x .word) k ne (w .ensures .0 k a b)) in
     sym (round-hit p _ _ (r .ensures .0) (w .result) (search needs) (rw e (sym (c .before .is-entry .ensures) ∙ c .if3 .taken)) o)
 
 pub find-from-spec : {M : Type 1} → statement M

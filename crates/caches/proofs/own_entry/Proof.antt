@@ -1,4 +1,5 @@
 use mathlib.Core.Path.{_∙_, sym}
+use native.Mathlib.Omega.{arith}
 use Rattle.caches.proofs.Live.{before-live, own-none, own-tentative, own-normal, own-behind}
 use borrow.Author.Needs.{needs}
 use Rattle.caches.proofs.own_entry.Statement.{statement}
@@ -33,7 +34,7 @@ returns-2 c =
 find-from-requires : tie.Need-find-from-requires
 find-from-requires c κs =
     let l = c .before .before .before .before .live-entry in
-    λ k a. before-live _ _ _ _ k (rw (l .ensures) at a)
+    ((λ e. absurd (omega (arith, e))), λ k a. before-live _ _ _ _ k (rw (l .ensures) at a))
 
 returns-3 : tie.Need-returns-3
 returns-3 c =

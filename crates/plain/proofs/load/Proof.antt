@@ -106,11 +106,11 @@ returns-3 c =
 rollback-requires : tie.Need-rollback-requires
 rollback-requires c κs = search needs
 
-find-entry-requires : tie.Need-find-entry-requires
-find-entry-requires c κs = search needs
+find-normal-requires : tie.Need-find-normal-requires
+find-normal-requires c κs = search needs
 
 load-on-requires-2 : tie.Need-load-on-requires-2
-load-on-requires-2 c κs = c .before .before .before .before .find-entry .ensures
+load-on-requires-2 c κs = c .before .before .before .before .find-normal .ensures
 
 returns-4 : tie.Need-returns-4
 unfolding load
@@ -157,6 +157,6 @@ load-spec =
     hit-requires-2
     returns-3
     rollback-requires
-    find-entry-requires
+    find-normal-requires
     load-on-requires-2
     returns-4)

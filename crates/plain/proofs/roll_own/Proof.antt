@@ -11,8 +11,8 @@ own-entry-requires c κs = search needs
 rollback-requires : tie.Need-rollback-requires
 rollback-requires c κs = search needs
 
-find-entry-requires : tie.Need-find-entry-requires
-find-entry-requires c κs = search needs
+find-normal-requires : tie.Need-find-normal-requires
+find-normal-requires c κs = search needs
 
 returns : tie.Need-returns
 unfolding rollOwn
@@ -20,7 +20,7 @@ returns c =
     let own = c .before .before .before .before .before in
     let t = tentative-own _ _ _ _ _ (own .before .own-entry .ensures) (own .if1 .taken) in
     let r = c .before .before .rollback in
-    (λ m l. rw (t .0, r .ensures .0, r .ensures .1), c .find-entry .ensures)
+    (λ m l. rw (t .0, r .ensures .0, r .ensures .1), c .find-normal .ensures)
 
 returns-2 : tie.Need-returns-2
 unfolding rollOwn
@@ -30,4 +30,4 @@ returns-2 c =
 
 pub roll-own-spec : {M : Type 1} → statement M
 roll-own-spec =
-    tie.close (tie.spec own-entry-requires rollback-requires find-entry-requires returns returns-2)
+    tie.close (tie.spec own-entry-requires rollback-requires find-normal-requires returns returns-2)

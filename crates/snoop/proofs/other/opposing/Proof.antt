@@ -4,12 +4,12 @@ use borrow.Author.Needs.{needs}
 use Rattle.snoop.proofs.other.opposing.Statement.{statement}
 use Rattle.snoop.proofs.other.opposing.Tie as tie
 
-find-entry-requires : tie.Need-find-entry-requires
-find-entry-requires c κs = search needs
+find-tentative-requires : tie.Need-find-tentative-requires
+find-tentative-requires c κs = search needs
 
 returns : tie.Need-returns
 unfolding opposes
-returns c = λ d e. rw (e, ← c .before .find-entry .ensures, le-ltb _ _ (c .if1 .taken))
+returns c = λ d e. rw (e, ← c .before .find-tentative .ensures, le-ltb _ _ (c .if1 .taken))
 
 mul-j : tie.Need-mul-j
 mul-j c = search needs
@@ -33,13 +33,13 @@ returns-2 : tie.Need-returns-2
 unfolding opposes
 returns-2 c =
     let found = c .before .before .before in
-    λ d e. rw (e, ← found .before .find-entry .ensures, lt-ltb _ _ (found .if1 .left), c .against .ensures, c .before .unpack .ensures)
+    λ d e. rw (e, ← found .before .find-tentative .ensures, lt-ltb _ _ (found .if1 .left), c .against .ensures, c .before .unpack .ensures)
 
 pub opposing-spec : {M : Type 1} → statement M
 opposing-spec =
     tie.close
     (tie.spec
-    find-entry-requires
+    find-tentative-requires
     returns
     mul-j
     add-j
