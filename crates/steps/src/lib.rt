@@ -54,16 +54,18 @@ pub fn take_step(
 ) -> Answered
     ensures { λ r. ⌜ outcome r (caches (now (memory .exit)) (now (lines .exit)) (now (entries .exit)) (now (flags .exit))) ≡ takeStep d op p word v (caches (now (memory .entry)) (now (lines .entry)) (now (entries .entry)) (now (flags .entry))) ⌝ }
 {
-    match op {
-        LOAD => plain::load(memory, lines, entries, flags, d, p, word),
-        STORE => plain::store(memory, lines, entries, flags, d, p, word, v),
-        LT => transact::transact(memory, lines, entries, flags, d, LT, p, word, v),
-        LTX => transact::transact(memory, lines, entries, flags, d, LTX, p, word, v),
-        ST => transact::transact(memory, lines, entries, flags, d, ST, p, word, v),
-        COMMIT => ends::commit(entries, flags, d, p),
-        ABORT => ends::abort(entries, flags, d, p),
-        VALIDATE => ends::validate(entries, flags, p),
-        INTERRUPT => ends::interrupt(entries, flags, d, p),
-        9..=255 => ends::no_such_step(),
-    }
+    // One call for the three transactional accesses: the compiler writes a function out where it has one caller.
+    let access = match op {
+        LOAD => return plain::load(memory, lines, entries, flags, d, p, word),
+        STORE => return plain::store(memory, lines, entries, flags, d, p, word, v),
+        LT => LT,
+        LTX => LTX,
+        ST => ST,
+        COMMIT => return ends::commit(entries, flags, d, p),
+        ABORT => return ends::abort(entries, flags, d, p),
+        VALIDATE => return ends::validate(entries, flags, p),
+        INTERRUPT => return ends::interrupt(entries, flags, d, p),
+        9..=255 => return ends::no_such_step(),
+    };
+    transact::transact(memory, lines, entries, flags, d, access, p, word, v)
 }
