@@ -4,11 +4,11 @@
 use crate::numbers::BACKUP;
 use crate::numbers::TENTATIVE;
 ghost use mathlib.Core.Path.{_≡_};
-ghost use Prim.Native.Nat.{_+_, _*_};
-ghost use lib.Dec.{eqb};
-ghost use Rattle.laws.specs.Choice.{pick};
-ghost use Rattle.entry.specs.Numbers.{NORMAL};
-ghost use Rattle.entry.specs.Packing.{noEntry, pack, unpack};
+ghost use Prim.Native.Nat.{_+_, _*_, _/_, _%_, _≤_};
+ghost use lib.Dec.{eqb, ltb};
+ghost use Rattle.laws.specs.Choice.{pick, both};
+ghost use Rattle.entry.specs.Numbers.{NORMAL, BACKUP};
+ghost use Rattle.entry.specs.Packing.{noEntry, packedEnd, pack, unpack};
 ghost use Rattle.entry.specs.Entry.{withTag, rolledBack, committed, isEntry, isLive};
 
 pub fn tag_of(x: u64) -> u8
@@ -37,10 +37,21 @@ pub fn is_live(x: u64, word: u8) -> bool
     x / 4294967296 % 512 == 256 + (word as u64)
 }
 
-// A copy whose tag is `gone` becomes invalid, one whose tag is `kept` NORMAL.
+// An invalid or NORMAL entry, as most are, which no end of a transaction changes.
+fn stays(x: u64) -> bool
+    ensures { λ r. ⌜ r ≡ both (eqb (x / 4294967296 / 512 % 2) 0) (ltb x packedEnd) ⌝ }
+{
+    x / 4294967296 / 512 % 2 == 0 && x < 17592186044416
+}
+
+// A backup or tentative copy whose tag is `gone` becomes invalid, one whose tag is `kept` NORMAL.
 fn ended(x: u64, gone: u8, kept: u8) -> u64
+    requires { ⌜ (BACKUP ≤ gone) × (BACKUP ≤ kept) ⌝ }
     ensures { λ r. ⌜ r ≡ pack (pick (eqb (unpack x .tag) gone) noEntry (pick (eqb (unpack x .tag) kept) (withTag (unpack x) NORMAL) (unpack x))) ⌝ }
 {
+    if stays(x) {
+        return x;
+    }
     let tag = tag_of(x);
     if tag == gone {
         return 0;
