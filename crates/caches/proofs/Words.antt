@@ -18,6 +18,9 @@ use Rattle.caches.specs.Own.{used, usedFor}
 abbrev pub ofWord : List ℕ → ℕ → ℕ → ℕ → Bool
 ofWord es p word i = eqb (copyAt es p i .word) word
 
+abbrev pub isInvalid : List ℕ → ℕ → ℕ → Bool
+isInvalid es p i = eqb (copyAt es p i .tag) INVALID
+
 abbrev pub isUsed : List ℕ → ℕ → ℕ → Bool
 isUsed es p i = used (copyAt es p i)
 
@@ -25,6 +28,10 @@ isUsed es p i = used (copyAt es p i)
 pub other-word : (es : List ℕ) (p word i j : ℕ) (b : Bool) → b ≡ eqb (unpack (getD es j 0) .word) word → b ≡ false →
     i < 64 → j ≡ p % 8 * 64 + i → ofWord es p word i ≡ false
 other-word es p word i j b e f h at = let k : p % 8 * 64 + i % 64 ≡ j = omega arith in rw k (sym e ∙ f)
+
+pub not-invalid : (es : List ℕ) (p i j : ℕ) (b : Bool) → b ≡ eqb (unpack (getD es j 0) .tag) INVALID → b ≡ false →
+    i < 64 → j ≡ p % 8 * 64 + i → isInvalid es p i ≡ false
+not-invalid es p i j b e f h at = let k : p % 8 * 64 + i % 64 ≡ j = omega arith in rw k (sym e ∙ f)
 
 pub unused : (es : List ℕ) (p i j : ℕ) → getD es j 0 ≡ 0 → i < 64 → j ≡ p % 8 * 64 + i → isUsed es p i ≡ false
 unused es p i j e h at = let k : p % 8 * 64 + i % 64 ≡ j = omega arith in rw (k, e) refl

@@ -17,9 +17,9 @@ ghost use Prim.Native.Nat.{ℕ, _+_, _<_, _≤_};
 ghost use lib.Dec.{eqb, ltb};
 ghost use Rattle.laws.specs.Choice.{pick};
 ghost use Rattle.entry.specs.Numbers.{INVALID, NORMAL, TENTATIVE};
-ghost use Rattle.entry.specs.Packing.{noEntry};
+ghost use Rattle.entry.specs.Packing.{noEntry, unpack};
 ghost use Rattle.machine.specs.State.{copyAt, withCopy};
-ghost use Rattle.machine.specs.Own.{home, holds, hasEntry, findEntry, lowest, freeSlot, liveEntry};
+ghost use Rattle.machine.specs.Own.{home, holds, hasEntry, findEntry, isFree, lowest, freeSlot, liveEntry};
 ghost use Rattle.machine.specs.Rollback.{rolledEntries, statusDown, committedEntries};
 ghost use Rattle.machine.specs.Bus.{writtenBack, writes};
 ghost use Rattle.caches.specs.Own.{used, usedFor, ownEntry};
@@ -242,11 +242,63 @@ pub fn own_entry(entries: &Copies, p: usize, n: usize, word: u8) -> Own
     }
 }
 
-fn lowest(entries: &Copies, p: usize, n: usize, tag: u8, taken: usize) -> usize
+fn is_invalid(x: u64) -> bool
+    ensures { λ r. ⌜ r ≡ eqb (unpack x .tag) INVALID ⌝ }
+{
+    entry::packed::tag_of(x) == INVALID
+}
+
+// Four places from i on are looked at. No place from i to before the answer is invalid.
+fn skip_valid(entries: &Copies, p: usize, i: usize) -> usize
+    requires { ⌜ i + 4 ≤ 64 ⌝ }
+    ensures { λ r. ⌜ ((k : ℕ) → i ≤ k → k < r → eqb (copyAt (now (entries .entry)) p k .tag) INVALID ≡ false) ⌝ }
+    ensures { λ r. ⌜ (i ≤ r) × (r ≤ i + 4) ⌝ }
+{
+    let j = p % 8 * 64 + i;
+    if is_invalid(entries[j]) {
+        return i;
+    }
+    let j1 = j + 1;
+    if is_invalid(entries[j1]) {
+        return i + 1;
+    }
+    let j2 = j + 2;
+    if is_invalid(entries[j2]) {
+        return i + 2;
+    }
+    let j3 = j + 3;
+    if is_invalid(entries[j3]) {
+        return i + 3;
+    }
+    i + 4
+}
+
+// No place before the answer is invalid. Long transactions fill the lower entries.
+fn first_invalid(entries: &Copies, p: usize, n: usize) -> usize
+    ensures { λ r. ⌜ ((k : ℕ) → k < r → eqb (copyAt (now (entries .entry)) p k .tag) INVALID ≡ false) ⌝ }
+{
+    let m = reach(n);
+    let mut at: usize = 0;
+    let first = loop {
+        if at + 4 > m {
+            break at;
+        }
+        let k = skip_valid(entries, p, at);
+        if k < at + 4 {
+            break k;
+        }
+        at += 4;
+    };
+    first
+}
+
+// No place before `from` is free and has the tag.
+fn lowest(entries: &Copies, p: usize, n: usize, tag: u8, taken: usize, from: usize) -> usize
+    requires { ⌜ ((k : ℕ) → k < from → isFree (now entries) p tag taken k ≡ false) ⌝ }
     ensures { λ r. ⌜ r ≡ lowest (now (entries .entry)) p n tag taken ⌝ }
 {
     let base = p % 8 * 64;
-    let mut i: usize = 0;
+    let mut i: usize = from;
     let slot = loop {
         if i >= n {
             break n;
@@ -264,15 +316,16 @@ fn lowest(entries: &Copies, p: usize, n: usize, tag: u8, taken: usize) -> usize
 pub fn free_slot(entries: &Copies, p: usize, n: usize, taken: usize) -> usize
     ensures { λ r. ⌜ r ≡ freeSlot (now (entries .entry)) p n taken ⌝ }
 {
-    let i = lowest(entries, p, n, INVALID, taken);
+    let from = first_invalid(entries, p, n);
+    let i = lowest(entries, p, n, INVALID, taken, from);
     if i < n {
         return i;
     }
-    let j = lowest(entries, p, n, NORMAL, taken);
+    let j = lowest(entries, p, n, NORMAL, taken, 0);
     if j < n {
         return j;
     }
-    lowest(entries, p, n, BACKUP, taken)
+    lowest(entries, p, n, BACKUP, taken, 0)
 }
 
 pub fn rollback(entries: &mut Copies, flags: &mut Flags, p: usize, n: usize)
