@@ -2,7 +2,7 @@
 -- need not go further. Assumes nothing.
 use mathlib.Core.Path.{_≡_, refl, sym, _∙_}
 use mathlib.Core.Bool.{Bool, true, false, false≢true}
-use Prim.Native.Nat.{ℕ, _+_, _%_, _≤_, _<_}
+use Prim.Native.Nat.{ℕ, _+_, _-_, _%_, _≤_, _<_}
 use native.Mathlib.Omega.{arith}
 use native.Mathlib.Decide.{ℕ-discrete, decLt}
 use borrow.Author.Tests.{ltb-true}
@@ -24,6 +24,18 @@ module _ (p : ℕ → Bool) where
       by (yes z) = rw z e
       by (no z) = h k a (omega arith)
 
+  pub none-one : (i : ℕ) → p i ≡ false → none i (i + 1)
+  none-one i a = none-next i i (i + 1) (none-yet i) a (omega arith)
+
+  pub none-two : (i : ℕ) → p i ≡ false → p (i + 1) ≡ false → none i (i + 2)
+  none-two i a b = none-next i (i + 1) (i + 2) (none-one i a) b (omega arith)
+
+  pub none-three : (i : ℕ) → p i ≡ false → p (i + 1) ≡ false → p (i + 2) ≡ false → none i (i + 3)
+  none-three i a b c = none-next i (i + 2) (i + 3) (none-two i a b) c (omega arith)
+
+  pub none-four : (i : ℕ) → p i ≡ false → p (i + 1) ≡ false → p (i + 2) ≡ false → p (i + 3) ≡ false → none i (i + 4)
+  none-four i a b c d = none-next i (i + 3) (i + 4) (none-three i a b c) d (omega arith)
+
   pub none-on : (i j k : ℕ) → none i j → none j k → none i k
   none-on i j k h g x a b = by (decLt x j)
     where
@@ -38,6 +50,17 @@ module _ (p : ℕ → Bool) where
       by (yes l) z = absurd (false≢true (sym (no-other (firstFrom p 0 n) (omega arith) l) ∙ first-has p 0 n (omega arith)))
       by (no l) (yes k) = absurd (false≢true (sym (first-not p 0 n i (omega arith) k) ∙ has))
       by (no l) (no k) = omega arith
+
+  -- a search over places from base on that has passed all before j
+  module _ (base : ℕ) where
+    abbrev pub searched : ℕ → Type 0
+    searched j = (base ≤ j) × none 0 (j - base)
+
+    pub searched-on : (j k : ℕ) → searched j → j ≤ k → ((i : ℕ) → j ≤ base + i → base + i < k → p i ≡ false) → searched k
+    searched-on j k s h f = (omega arith, none-on 0 (j - base) (k - base) (s .1) (λ i a b. f i (omega arith) (omega arith)))
+
+    pub searched-next : (k : ℕ) → searched k → p (k - base) ≡ false → searched (k + 1)
+    searched-next k s e = (omega arith, none-next 0 (k - base) (k + 1 - base) (s .1) e (omega arith))
 
   module _ (n m : ℕ) (reached : m ≡ pick (ltb 64 n) 64 n) where
     -- found within the first places, found so among all

@@ -51,7 +51,8 @@ pub holds-unique : (κs : Lfts 0) (a : ArgsD holds.signature κs) (r r' : ResD h
 holds-unique κs a r r' s s' p q = p ∙ sym q
 
 pub find-tentative-unique : (κs : Lfts 1) (a : ArgsD find-tentative.signature κs) (r r' : ResD find-tentative.signature κs)
-    (s s' : AtExit (endedOf 1 find-tentative-kinds.ps find-tentative-kinds.r) κs) → find-tentative-reads.Post κs a r s → find-tentative-reads.Post κs a r' s' →
+    (s s' : AtExit (endedOf 1 find-tentative-kinds.ps find-tentative-kinds.r) κs) →
+    find-tentative-reads.Post κs a r s → find-tentative-reads.Post κs a r' s' →
     r ≡ r'
 find-tentative-unique κs a r r' s s' p q = p ∙ sym q
 

@@ -15,6 +15,7 @@ ghost use mathlib.Core.Logic.{_≢_};
 ghost use mathlib.Core.Bool.{true, false};
 ghost use Prim.Native.Nat.{ℕ, _+_, _<_, _≤_};
 ghost use lib.Dec.{eqb, ltb};
+ghost use lib.ListN.{getD};
 ghost use Rattle.laws.specs.Choice.{pick};
 ghost use Rattle.entry.specs.Numbers.{INVALID, NORMAL, TENTATIVE};
 ghost use Rattle.entry.specs.Packing.{noEntry, unpack};
@@ -59,37 +60,60 @@ fn reach(n: usize) -> usize
     n
 }
 
-// Four places from i on are looked at. No place from i to before the answer has the word.
-fn skip_words(entries: &Copies, p: usize, i: usize, word: u8) -> usize
-    requires { ⌜ i + 4 ≤ 64 ⌝ }
-    ensures { λ r. ⌜ ((k : ℕ) → i ≤ k → k < r → eqb (copyAt (now (entries .entry)) p k .word) word ≡ false) ⌝ }
-    ensures { λ r. ⌜ (i ≤ r) × (r ≤ i + 4) ⌝ }
+// The searches for a word go over places of the array, and look at four of them, or eight, in one turn of a loop.
+
+// No place from j to before the answer has the word.
+fn skip_words(entries: &Copies, j: usize, word: u8) -> usize
+    requires { ⌜ j + 4 ≤ 512 ⌝ }
+    ensures { λ r. ⌜ ((k : ℕ) → j ≤ k → k < r → eqb (unpack (getD (now (entries .entry)) k 0) .word) word ≡ false) ⌝ }
+    ensures { λ r. ⌜ (j ≤ r) × (r ≤ j + 4) ⌝ }
 {
-    let j = p % 8 * 64 + i;
     if entry::packed::has_word(entries[j], word) {
-        return i;
+        return j;
     }
     let j1 = j + 1;
     if entry::packed::has_word(entries[j1], word) {
-        return i + 1;
+        return j1;
     }
     let j2 = j + 2;
     if entry::packed::has_word(entries[j2], word) {
-        return i + 2;
+        return j2;
     }
     let j3 = j + 3;
     if entry::packed::has_word(entries[j3], word) {
-        return i + 3;
+        return j3;
     }
-    i + 4
+    j + 4
 }
 
-// Whether four places from i on are 0, as an invalid entry is that a step left.
-fn four_unused(entries: &Copies, p: usize, i: usize) -> bool
-    requires { ⌜ i + 4 ≤ 64 ⌝ }
-    ensures { λ r. ⌜ (r ≡ true → (k : ℕ) → i ≤ k → k < i + 4 → used (copyAt (now (entries .entry)) p k) ≡ false) ⌝ }
+fn skip_eight(entries: &Copies, j: usize, word: u8) -> usize
+    requires { ⌜ j + 8 ≤ 512 ⌝ }
+    ensures { λ r. ⌜ ((k : ℕ) → j ≤ k → k < r → eqb (unpack (getD (now (entries .entry)) k 0) .word) word ≡ false) ⌝ }
+    ensures { λ r. ⌜ (j ≤ r) × (r ≤ j + 8) ⌝ }
 {
-    let j = p % 8 * 64 + i;
+    let k = skip_words(entries, j, word);
+    if k < j + 4 {
+        return k;
+    }
+    skip_words(entries, j + 4, word)
+}
+
+fn skip_last(entries: &Copies, end: usize, j: usize, word: u8) -> usize
+    requires { ⌜ (j ≤ end) × (end ≤ 512) ⌝ }
+    ensures { λ r. ⌜ ((k : ℕ) → j ≤ k → k < r → eqb (unpack (getD (now (entries .entry)) k 0) .word) word ≡ false) ⌝ }
+    ensures { λ r. ⌜ j ≤ r ⌝ }
+{
+    if j + 4 > end {
+        return j;
+    }
+    skip_words(entries, j, word)
+}
+
+// Whether four places are 0, as an invalid entry is that a step left.
+fn four_unused(entries: &Copies, j: usize) -> bool
+    requires { ⌜ j + 4 ≤ 512 ⌝ }
+    ensures { λ r. ⌜ (r ≡ true → (k : ℕ) → j ≤ k → k < j + 4 → used (unpack (getD (now (entries .entry)) k 0)) ≡ false) ⌝ }
+{
     if entries[j] != 0 {
         return false;
     }
@@ -105,18 +129,18 @@ fn four_unused(entries: &Copies, p: usize, i: usize) -> bool
     entries[j3] == 0
 }
 
-// Every place from i to before the answer is invalid.
-fn next_used(entries: &Copies, p: usize, m: usize, i: usize) -> usize
-    requires { ⌜ (i ≤ m) × (m ≤ 64) ⌝ }
-    ensures { λ r. ⌜ ((k : ℕ) → i ≤ k → k < r → used (copyAt (now (entries .entry)) p k) ≡ false) ⌝ }
-    ensures { λ r. ⌜ i ≤ r ⌝ }
+// Every place from j to before the answer is invalid.
+fn next_used(entries: &Copies, end: usize, j: usize) -> usize
+    requires { ⌜ (j ≤ end) × (end ≤ 512) ⌝ }
+    ensures { λ r. ⌜ ((k : ℕ) → j ≤ k → k < r → used (unpack (getD (now (entries .entry)) k 0)) ≡ false) ⌝ }
+    ensures { λ r. ⌜ j ≤ r ⌝ }
 {
-    let mut at: usize = i;
+    let mut at: usize = j;
     let next = loop {
-        if at + 4 > m {
+        if at + 4 > end {
             break at;
         }
-        if !four_unused(entries, p, at) {
+        if !four_unused(entries, at) {
             break at;
         }
         at += 4;
@@ -124,26 +148,26 @@ fn next_used(entries: &Copies, p: usize, m: usize, i: usize) -> usize
     next
 }
 
-// Most entries are not of the word that is looked for, but invalid ones are of word 0. No place from i to before the answer is valid and has
+// Most entries are not of the word that is looked for, but invalid ones are of word 0. No place from j to before the answer is valid and has
 // the word.
-fn next_of_word(entries: &Copies, p: usize, m: usize, i: usize, word: u8) -> usize
-    requires { ⌜ (i ≤ m) × (m ≤ 64) ⌝ }
-    ensures { λ r. ⌜ ((k : ℕ) → i ≤ k → k < r → usedFor (copyAt (now (entries .entry)) p k) word ≡ false) ⌝ }
-    ensures { λ r. ⌜ i ≤ r ⌝ }
+fn next_of_word(entries: &Copies, end: usize, j: usize, word: u8) -> usize
+    requires { ⌜ (j ≤ end) × (end ≤ 512) ⌝ }
+    ensures { λ r. ⌜ ((k : ℕ) → j ≤ k → k < r → usedFor (unpack (getD (now (entries .entry)) k 0)) word ≡ false) ⌝ }
+    ensures { λ r. ⌜ j ≤ r ⌝ }
 {
     if word == 0 {
-        return next_used(entries, p, m, i);
+        return next_used(entries, end, j);
     }
-    let mut at: usize = i;
+    let mut at: usize = j;
     let next = loop {
-        if at + 4 > m {
-            break at;
+        if at + 8 > end {
+            break skip_last(entries, end, at, word);
         }
-        let k = skip_words(entries, p, at, word);
-        if k < at + 4 {
+        let k = skip_eight(entries, at, word);
+        if k < at + 8 {
             break k;
         }
-        at += 4;
+        at += 8;
     };
     next
 }
@@ -154,22 +178,25 @@ fn find_from(entries: &Copies, p: usize, n: usize, from: usize, tag: u8, word: u
     requires { ⌜ ((k : ℕ) → k < from → hasEntry (now entries) p tag word k ≡ false) ⌝ }
     ensures { λ r. ⌜ r ≡ findEntry (now (entries .entry)) p n tag word ⌝ }
 {
-    let base = p % 8 * 64;
     let m = reach(n);
-    let mut i: usize = from;
+    if from >= m {
+        return n;
+    }
+    let base = p % 8 * 64;
+    let end = base + m;
+    let mut j: usize = base + from;
     let at = loop {
-        if i >= m {
+        if j >= end {
             break n;
         }
-        let k = next_of_word(entries, p, m, i, word);
-        if k >= m {
+        let k = next_of_word(entries, end, j, word);
+        if k >= end {
             break n;
         }
-        let j = base + k;
-        if entry::packed::is_entry(entries[j], tag, word) {
-            break k;
+        if entry::packed::is_entry(entries[k], tag, word) {
+            break k - base;
         }
-        i = k + 1;
+        j = k + 1;
     };
     at
 }
@@ -189,22 +216,22 @@ pub fn find_normal(entries: &Copies, p: usize, n: usize, word: u8) -> usize
 pub fn live_entry(entries: &Copies, p: usize, n: usize, word: u8) -> usize
     ensures { λ r. ⌜ r ≡ liveEntry (now (entries .entry)) p n word ⌝ }
 {
-    let base = p % 8 * 64;
     let m = reach(n);
-    let mut i: usize = 0;
+    let base = p % 8 * 64;
+    let end = base + m;
+    let mut j: usize = base;
     let at = loop {
-        if i >= m {
+        if j >= end {
             break n;
         }
-        let k = next_of_word(entries, p, m, i, word);
-        if k >= m {
+        let k = next_of_word(entries, end, j, word);
+        if k >= end {
             break n;
         }
-        let j = base + k;
-        if entry::packed::is_live(entries[j], word) {
-            break k;
+        if entry::packed::is_live(entries[k], word) {
+            break k - base;
         }
-        i = k + 1;
+        j = k + 1;
     };
     at
 }

@@ -1,11 +1,10 @@
 -- One comparison of a packed copy is the test of its fields.
-use mathlib.Core.Path.{_≡_, refl, sym, _∙_}
-use mathlib.Core.Bool.{Bool, true, false}
+use mathlib.Core.Path.{_≡_, refl, _∙_}
 use Prim.Native.Nat.{ℕ, _+_, _-_, _*_, _/_, _%_, _<_}
 use native.Mathlib.Omega.{arith}
 use native.Mathlib.Decide.{ℕ-discrete}
 use lib.Dec.{eqb}
-use borrow.Author.Tests.{eq-eqb, ne-eqb, eqb-true, eqb-false}
+use borrow.Author.Tests.{eq-eqb, ne-eqb}
 use Rattle.laws.specs.Choice.{both, either}
 use Rattle.entry.specs.Numbers.{NORMAL, TENTATIVE}
 use Rattle.entry.specs.Packing.{pack, unpack, packedEnd, key-both, key-of, live-both, live-of}

@@ -1,6 +1,5 @@
 -- "Readings of the paper that go wrong here": for each a case whose row tells the right reading from the wrong one.
 use mathlib.Core.List.{List, [], _∷_}
-use Prim.Native.Nat.{ℕ}
 use lib.Dec.{T}
 use Rattle.entry.specs.declared.answer.Answer.the-variants.{Value, Done, Success, Failure, True, False, Aborted}
 use Rattle.entry.specs.Numbers.{LOAD, STORE, LT, ST, COMMIT, ABORT, VALIDATE, READ, RFO, WRITE, T-READ, T-RFO}

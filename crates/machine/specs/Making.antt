@@ -2,7 +2,7 @@
 use mathlib.Core.Bool.{Bool, true, not}
 use mathlib.Core.List.{List, [], _∷_, _++_}
 use Prim.Native.Nat.{ℕ, _-_}
-use lib.Dec.{eqb, ltb, leb}
+use lib.Dec.{eqb, leb}
 use lib.ListN.{length, replicate}
 use Rattle.laws.specs.Choice.{pick, both, either}
 use Rattle.machine.specs.declared.Dims.{Dims}

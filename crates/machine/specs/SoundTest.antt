@@ -1,6 +1,6 @@
 -- Refusal 9's test, as the code makes it: one pass that marks where each processor's copy of each word stands and who owns each word, then
 -- one test of every place against the marks. Place j is slot j % 64 of processor j / 64.
-use mathlib.Core.Bool.{Bool, true, false, not}
+use mathlib.Core.Bool.{Bool, true, not}
 use mathlib.Core.List.{List}
 use Prim.Native.Nat.{ℕ, _+_, _*_, _-_, _/_, _%_}
 use lib.Dec.{eqb, ltb, leb}

@@ -1,5 +1,4 @@
 -- "LT, LTX, ST", whose numbered sentences are cited as 1 to 5.
-use mathlib.Core.Bool.{Bool}
 use mathlib.Core.List.{List}
 use Prim.Native.Nat.{ℕ, _+_}
 use lib.Dec.{eqb, ltb}

@@ -1,19 +1,11 @@
-use Prim.Native.Nat.{_+_}
 use mathlib.Core.Bool.{false≢true}
-use native.Mathlib.Omega.{arith}
 use denote.Ref.{now}
 use borrow.Author.Tests.{eqb-true}
-use Rattle.caches.proofs.Round.{none-yet, none-next}
+use Rattle.caches.proofs.Round.{none-four}
 use Rattle.caches.proofs.Words.{isUsed, unused}
 use borrow.Author.Needs.{needs}
 use Rattle.caches.proofs.four_unused.Statement.{statement}
 use Rattle.caches.proofs.four_unused.Tie as tie
-
-mul-j : tie.Need-mul-j
-mul-j c = search needs
-
-add-j : tie.Need-add-j
-add-j c = search needs
 
 mul-if1 : tie.Need-mul-if1
 mul-if1 c = search needs
@@ -58,28 +50,19 @@ element-copy-out-result : tie.Need-element-copy-out-result
 element-copy-out-result c = search needs
 
 returns-4 : tie.Need-returns-4
-returns-4 c = λ e.
+returns-4 c =
     let third = c .before in
     let second = third .before .before in
     let first = second .before .before in
     let x = first .before .before .args in
     let es = now (x .entries) in
-    let q = isUsed es (x .p) in
-    let u1 = unused es (x .p) (x .i) _ (first .if1 .left) (search needs) (search needs) in
-    let n1 = none-next q (x .i) (x .i) (x .i + 1) (none-yet q (x .i)) u1 (omega arith) in
-    let u2 = unused es (x .p) (x .i + 1) _ (second .if2 .left) (search needs) (search needs) in
-    let n2 = none-next q (x .i) (x .i + 1) (x .i + 2) n1 u2 (omega arith) in
-    let u3 = unused es (x .p) (x .i + 2) _ (third .if3 .left) (search needs) (search needs) in
-    let n3 = none-next q (x .i) (x .i + 2) (x .i + 3) n2 u3 (omega arith) in
-    let u4 = unused es (x .p) (x .i + 3) _ (eqb-true _ 0 e) (search needs) (search needs) in
-    none-next q (x .i) (x .i + 3) (x .i + 4) n3 u4 (omega arith)
+    λ e. none-four (isUsed es) (x .j) (unused es _ (first .if1 .left)) (unused es _ (second .if2 .left)) (unused es _ (third .if3 .left))
+    (unused es _ (eqb-true _ 0 e))
 
 pub four-unused-spec : {M : Type 1} → statement M
 four-unused-spec =
     tie.close
     (tie.spec
-    mul-j
-    add-j
     mul-if1
     element-copy-out-if1
     returns

@@ -1,35 +1,34 @@
-use Prim.Native.Nat.{ℕ, _+_, _-_, _%_, _<_}
+use Prim.Native.Nat.{_+_, _*_, _-_, _%_}
 use mathlib.Core.Path.{_≡_, _∙_, sym}
-use mathlib.Core.Bool.{false}
 use native.Mathlib.Omega.{arith}
 use denote.Ref.{now}
 use Rattle.machine.specs.Own.{hasLive, liveEntry}
-use Rattle.caches.proofs.Round.{none-next, none-on, round-hit, round-end}
-use Rattle.caches.proofs.Words.{no-live}
+use Rattle.caches.proofs.Round.{searched, searched-on, searched-next, round-hit, round-end}
+use Rattle.caches.proofs.Words.{no-live, live-round}
 use borrow.Author.Needs.{needs}
 use Rattle.caches.proofs.live_entry.Statement.{statement}
 use Rattle.caches.proofs.live_entry.Tie as tie
 
 abbrev Inv-loop : tie.InvT-loop
-Inv-loop entries p n word base m i₀ i = (k : ℕ) → k < i → hasLive entries p word k ≡ false
+Inv-loop entries p n word m base end j₀ j = searched (hasLive entries p word) (p % 8 * 64) j
 
 abbrev μ-loop : tie.MeasureT-loop
-μ-loop entries p n word base m i₀ i = m - i
-
-mul-base : tie.Need-mul-base Inv-loop μ-loop
-mul-base c = search needs
+μ-loop entries p n word m base end j₀ j = end - j
 
 reach-requires : tie.Need-reach-requires Inv-loop μ-loop
 reach-requires c κs = search needs
 
+mul-base : tie.Need-mul-base Inv-loop μ-loop
+mul-base c = search needs
+
+add-end : tie.Need-add-end Inv-loop μ-loop
+add-end c = search needs
+
 loop-holds : tie.Need-loop-holds Inv-loop μ-loop
-loop-holds c = λ k a. absurd (omega arith)
+loop-holds c = (search needs, λ k a b. absurd (omega arith))
 
 next-of-word-requires : tie.Need-next-of-word-requires Inv-loop μ-loop
-next-of-word-requires c κs = (search needs, c .before .before .reach .ensures .1)
-
-add-j : tie.Need-add-j Inv-loop μ-loop
-add-j c = search needs
+next-of-word-requires c κs = search needs
 
 mul-is-live : tie.Need-mul-is-live Inv-loop μ-loop
 mul-is-live c = search needs
@@ -40,8 +39,11 @@ element-copy-out-is-live c = search needs
 is-live-requires : tie.Need-is-live-requires Inv-loop μ-loop
 is-live-requires c κs = search needs
 
-add-i : tie.Need-add-i Inv-loop μ-loop
-add-i c = search needs
+sub-at : tie.Need-sub-at Inv-loop μ-loop
+sub-at c = search needs
+
+add-j : tie.Need-add-j Inv-loop μ-loop
+add-j c = search needs
 
 loop-less : tie.Need-loop-less Inv-loop μ-loop
 loop-less c = search needs
@@ -49,42 +51,60 @@ loop-less c = search needs
 loop-again : tie.Need-loop-again Inv-loop μ-loop
 loop-again c =
     let x = c .before .before .before .before .before .before .before .before .args in
+    let es = now (x .entries) in
+    let base = x .p % 8 * 64 in
+    let q = hasLive es (x .p) (x .word) in
     let s = c .before .before .before .before .before .before .loop in
     let w = c .before .before .before .before .next-of-word in
-    let e : w .result % 64 ≡ w .result = search needs in
-    let p = hasLive (now (x .entries)) (x .p) (x .word) in
-    let o = none-on p 0 (s .i) (w .result) (λ k a b. s .inv k b) (λ k a b. no-live (now (x .entries)) (x .p) (x .word) k (w .ensures .0 k a b)) in
-    λ k a. none-next p 0 (w .result) (w .result + 1) o (rw e (sym (c .before .is-live .ensures) ∙ c .if3 .left)) (omega arith) k (omega arith) a
+    let there : base + (w .result - base) % 64 ≡ w .result = search needs in
+    let passed =
+    searched-on q base (s .j) (w .result) (s .inv) (w .ensures .1)
+    (λ i a b. no-live es (x .p) (x .word) i (search needs) (w .ensures .0 (base + i) a b)) in
+    searched-next q base (w .result) passed (rw there (sym (c .before .is-live .ensures) ∙ c .if3 .left))
 
 returns : tie.Need-returns Inv-loop μ-loop
 unfolding liveEntry
 returns c =
-    let r = c .before .before .reach in
+    let x = c .before .before .before .args in
+    let es = now (x .entries) in
     let s = c .before .loop in
-    sym (round-end _ _ _ (r .ensures .0) (λ k. let e : k % 64 % 64 ≡ k % 64 = omega arith in rw e) (s .i) (c .if1 .taken) (λ k a b. s .inv k b))
+    sym
+    (round-end _ _ _ (c .before .before .reach .ensures .0) (live-round es (x .p) (x .word)) (s .j - x .p % 8 * 64)
+    (search needs) (s .inv .1))
 
 returns-2 : tie.Need-returns-2 Inv-loop μ-loop
 unfolding liveEntry
 returns-2 c =
     let x = c .before .before .before .before .before .args in
-    let r = c .before .before .before .before .reach in
+    let es = now (x .entries) in
+    let base = x .p % 8 * 64 in
+    let q = hasLive es (x .p) (x .word) in
     let s = c .before .before .before .loop in
     let w = c .before .next-of-word in
-    let p = hasLive (now (x .entries)) (x .p) (x .word) in
-    let o = none-on p 0 (s .i) (w .result) (λ k a b. s .inv k b) (λ k a b. no-live (now (x .entries)) (x .p) (x .word) k (w .ensures .0 k a b)) in
-    sym (round-end p _ _ (r .ensures .0) (λ k. let e : k % 64 % 64 ≡ k % 64 = omega arith in rw e) (w .result) (c .if2 .taken) o)
+    let r = c .before .before .before .before .reach in
+    let passed =
+    searched-on q base (s .j) (base + r .result) (s .inv) (search needs)
+    (λ i a b. no-live es (x .p) (x .word) i (search needs) (w .ensures .0 (base + i) a (search needs))) in
+    sym
+    (round-end q _ _ (r .ensures .0) (live-round es (x .p) (x .word)) (base + r .result - base) (search needs)
+    (passed .1))
 
 returns-3 : tie.Need-returns-3 Inv-loop μ-loop
 unfolding liveEntry
 returns-3 c =
     let x = c .before .before .before .before .before .before .before .before .args in
-    let r = c .before .before .before .before .before .before .before .reach in
+    let es = now (x .entries) in
+    let base = x .p % 8 * 64 in
+    let q = hasLive es (x .p) (x .word) in
     let s = c .before .before .before .before .before .before .loop in
     let w = c .before .before .before .before .next-of-word in
-    let e : w .result % 64 ≡ w .result = search needs in
-    let p = hasLive (now (x .entries)) (x .p) (x .word) in
-    let o = none-on p 0 (s .i) (w .result) (λ k a b. s .inv k b) (λ k a b. no-live (now (x .entries)) (x .p) (x .word) k (w .ensures .0 k a b)) in
-    sym (round-hit p _ _ (r .ensures .0) (w .result) (search needs) (rw e (sym (c .before .is-live .ensures) ∙ c .if3 .taken)) o)
+    let there : base + (w .result - base) % 64 ≡ w .result = search needs in
+    let passed =
+    searched-on q base (s .j) (w .result) (s .inv) (w .ensures .1)
+    (λ i a b. no-live es (x .p) (x .word) i (search needs) (w .ensures .0 (base + i) a b)) in
+    sym
+    (round-hit q _ _ (c .before .before .before .before .before .before .before .reach .ensures .0) (w .result - base) (search needs)
+    (rw there (sym (c .before .is-live .ensures) ∙ c .if3 .taken)) (passed .1))
 
 pub live-entry-spec : {M : Type 1} → statement M
 live-entry-spec =
@@ -92,15 +112,16 @@ live-entry-spec =
     (tie.spec
     Inv-loop
     μ-loop
-    mul-base
     reach-requires
+    mul-base
+    add-end
     loop-holds
     next-of-word-requires
-    add-j
     mul-is-live
     element-copy-out-is-live
     is-live-requires
-    add-i
+    sub-at
+    add-j
     loop-less
     loop-again
     returns

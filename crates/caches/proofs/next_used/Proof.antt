@@ -1,7 +1,4 @@
-use Prim.Native.Nat.{ℕ, _+_, _-_, _≤_, _<_}
-use mathlib.Core.Path.{_≡_}
-use mathlib.Core.Bool.{false}
-use native.Mathlib.Omega.{arith}
+use Prim.Native.Nat.{_-_, _≤_}
 use borrow.Author.Tests.{not-false}
 use Rattle.caches.proofs.Round.{none, none-yet, none-on}
 use Rattle.caches.proofs.Words.{isUsed}
@@ -10,10 +7,10 @@ use Rattle.caches.proofs.next_used.Statement.{statement}
 use Rattle.caches.proofs.next_used.Tie as tie
 
 abbrev Inv-loop : tie.InvT-loop
-Inv-loop entries p m i at₀ at = (i ≤ at) × (at ≤ m) × none (isUsed entries p) i at
+Inv-loop entries end j at₀ at = (j ≤ at) × (at ≤ end) × none (isUsed entries) j at
 
 abbrev μ-loop : tie.MeasureT-loop
-μ-loop entries p m i at₀ at = m - at
+μ-loop entries end j at₀ at = end - at
 
 loop-holds : tie.Need-loop-holds Inv-loop μ-loop
 loop-holds c = (search needs, search needs, none-yet _ _)

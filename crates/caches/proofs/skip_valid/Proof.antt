@@ -1,7 +1,6 @@
 use Prim.Native.Nat.{_+_}
-use native.Mathlib.Omega.{arith}
 use denote.Ref.{now}
-use Rattle.caches.proofs.Round.{none-yet, none-next}
+use Rattle.caches.proofs.Round.{none-yet, none-one, none-two, none-three, none-four}
 use Rattle.caches.proofs.Words.{isInvalid, not-invalid}
 use borrow.Author.Needs.{needs}
 use Rattle.caches.proofs.skip_valid.Statement.{statement}
@@ -27,8 +26,7 @@ returns c =
     let x = c .before .before .before .args in
     let es = now (x .entries) in
     let q = isInvalid es (x .p) in
-    let n0 = none-yet q (x .i) in
-    (n0, search needs)
+    (none-yet q (x .i), search needs)
 
 add-j1 : tie.Need-add-j1
 add-j1 c = search needs
@@ -51,10 +49,8 @@ returns-2 c =
     let x = first .before .before .before .args in
     let es = now (x .entries) in
     let q = isInvalid es (x .p) in
-    let n0 = none-yet q (x .i) in
     let o1 = not-invalid es (x .p) (x .i) _ _ (first .before .is-invalid .ensures) (first .if1 .left) (search needs) (search needs) in
-    let n1 = none-next q (x .i) (x .i) (x .i + 1) n0 o1 (omega arith) in
-    (n1, search needs)
+    (none-one q (x .i) o1, search needs)
 
 add-j2 : tie.Need-add-j2
 add-j2 c = search needs
@@ -78,12 +74,9 @@ returns-3 c =
     let x = first .before .before .before .args in
     let es = now (x .entries) in
     let q = isInvalid es (x .p) in
-    let n0 = none-yet q (x .i) in
     let o1 = not-invalid es (x .p) (x .i) _ _ (first .before .is-invalid .ensures) (first .if1 .left) (search needs) (search needs) in
-    let n1 = none-next q (x .i) (x .i) (x .i + 1) n0 o1 (omega arith) in
     let o2 = not-invalid es (x .p) (x .i + 1) _ _ (second .before .is-invalid2 .ensures) (second .if2 .left) (search needs) (search needs) in
-    let n2 = none-next q (x .i) (x .i + 1) (x .i + 2) n1 o2 (omega arith) in
-    (n2, search needs)
+    (none-two q (x .i) o1 o2, search needs)
 
 add-j3 : tie.Need-add-j3
 add-j3 c = search needs
@@ -108,14 +101,10 @@ returns-4 c =
     let x = first .before .before .before .args in
     let es = now (x .entries) in
     let q = isInvalid es (x .p) in
-    let n0 = none-yet q (x .i) in
     let o1 = not-invalid es (x .p) (x .i) _ _ (first .before .is-invalid .ensures) (first .if1 .left) (search needs) (search needs) in
-    let n1 = none-next q (x .i) (x .i) (x .i + 1) n0 o1 (omega arith) in
     let o2 = not-invalid es (x .p) (x .i + 1) _ _ (second .before .is-invalid2 .ensures) (second .if2 .left) (search needs) (search needs) in
-    let n2 = none-next q (x .i) (x .i + 1) (x .i + 2) n1 o2 (omega arith) in
     let o3 = not-invalid es (x .p) (x .i + 2) _ _ (third .before .is-invalid3 .ensures) (third .if3 .left) (search needs) (search needs) in
-    let n3 = none-next q (x .i) (x .i + 2) (x .i + 3) n2 o3 (omega arith) in
-    (n3, search needs)
+    (none-three q (x .i) o1 o2 o3, search needs)
 
 add-result-4 : tie.Need-add-result-4
 add-result-4 c = search needs
@@ -128,16 +117,11 @@ returns-5 c =
     let x = first .before .before .before .args in
     let es = now (x .entries) in
     let q = isInvalid es (x .p) in
-    let n0 = none-yet q (x .i) in
     let o1 = not-invalid es (x .p) (x .i) _ _ (first .before .is-invalid .ensures) (first .if1 .left) (search needs) (search needs) in
-    let n1 = none-next q (x .i) (x .i) (x .i + 1) n0 o1 (omega arith) in
     let o2 = not-invalid es (x .p) (x .i + 1) _ _ (second .before .is-invalid2 .ensures) (second .if2 .left) (search needs) (search needs) in
-    let n2 = none-next q (x .i) (x .i + 1) (x .i + 2) n1 o2 (omega arith) in
     let o3 = not-invalid es (x .p) (x .i + 2) _ _ (third .before .is-invalid3 .ensures) (third .if3 .left) (search needs) (search needs) in
-    let n3 = none-next q (x .i) (x .i + 2) (x .i + 3) n2 o3 (omega arith) in
     let o4 = not-invalid es (x .p) (x .i + 3) _ _ (c .before .is-invalid4 .ensures) (c .if4 .left) (search needs) (search needs) in
-    let n4 = none-next q (x .i) (x .i + 3) (x .i + 4) n3 o4 (omega arith) in
-    (n4, search needs)
+    (none-four q (x .i) o1 o2 o3 o4, search needs)
 
 pub skip-valid-spec : {M : Type 1} → statement M
 skip-valid-spec =

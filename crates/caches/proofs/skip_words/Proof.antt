@@ -1,17 +1,10 @@
-use Prim.Native.Nat.{_+_}
-use native.Mathlib.Omega.{arith}
+use mathlib.Core.Path.{_∙_, sym}
 use denote.Ref.{now}
-use Rattle.caches.proofs.Round.{none-yet, none-next}
-use Rattle.caches.proofs.Words.{ofWord, other-word}
+use Rattle.caches.proofs.Round.{none-yet, none-one, none-two, none-three, none-four}
+use Rattle.caches.proofs.Words.{ofWord}
 use borrow.Author.Needs.{needs}
 use Rattle.caches.proofs.skip_words.Statement.{statement}
 use Rattle.caches.proofs.skip_words.Tie as tie
-
-mul-j : tie.Need-mul-j
-mul-j c = search needs
-
-add-j : tie.Need-add-j
-add-j c = search needs
 
 mul-has-word : tie.Need-mul-has-word
 mul-has-word c = search needs
@@ -25,10 +18,8 @@ has-word-requires c κs = search needs
 returns : tie.Need-returns
 returns c =
     let x = c .before .before .before .args in
-    let es = now (x .entries) in
-    let q = ofWord es (x .p) (x .word) in
-    let n0 = none-yet q (x .i) in
-    (n0, search needs)
+    let q = ofWord (now (x .entries)) (x .word) in
+    (none-yet q (x .j), search needs)
 
 add-j1 : tie.Need-add-j1
 add-j1 c = search needs
@@ -42,19 +33,13 @@ element-copy-out-has-word-2 c = search needs
 has-word-requires-2 : tie.Need-has-word-requires-2
 has-word-requires-2 c κs = search needs
 
-add-result : tie.Need-add-result
-add-result c = search needs
-
 returns-2 : tie.Need-returns-2
 returns-2 c =
     let first = c .before .before .before in
     let x = first .before .before .before .args in
-    let es = now (x .entries) in
-    let q = ofWord es (x .p) (x .word) in
-    let n0 = none-yet q (x .i) in
-    let o1 = other-word es (x .p) (x .word) (x .i) _ _ (first .before .has-word .ensures) (first .if1 .left) (search needs) (search needs) in
-    let n1 = none-next q (x .i) (x .i) (x .i + 1) n0 o1 (omega arith) in
-    (n1, search needs)
+    let q = ofWord (now (x .entries)) (x .word) in
+    let o1 = sym (first .before .has-word .ensures) ∙ first .if1 .left in
+    (none-one q (x .j) o1, search needs)
 
 add-j2 : tie.Need-add-j2
 add-j2 c = search needs
@@ -68,22 +53,15 @@ element-copy-out-has-word-3 c = search needs
 has-word-requires-3 : tie.Need-has-word-requires-3
 has-word-requires-3 c κs = search needs
 
-add-result-2 : tie.Need-add-result-2
-add-result-2 c = search needs
-
 returns-3 : tie.Need-returns-3
 returns-3 c =
     let second = c .before .before .before in
     let first = second .before .before .before in
     let x = first .before .before .before .args in
-    let es = now (x .entries) in
-    let q = ofWord es (x .p) (x .word) in
-    let n0 = none-yet q (x .i) in
-    let o1 = other-word es (x .p) (x .word) (x .i) _ _ (first .before .has-word .ensures) (first .if1 .left) (search needs) (search needs) in
-    let n1 = none-next q (x .i) (x .i) (x .i + 1) n0 o1 (omega arith) in
-    let o2 = other-word es (x .p) (x .word) (x .i + 1) _ _ (second .before .has-word2 .ensures) (second .if2 .left) (search needs) (search needs) in
-    let n2 = none-next q (x .i) (x .i + 1) (x .i + 2) n1 o2 (omega arith) in
-    (n2, search needs)
+    let q = ofWord (now (x .entries)) (x .word) in
+    let o1 = sym (first .before .has-word .ensures) ∙ first .if1 .left in
+    let o2 = sym (second .before .has-word2 .ensures) ∙ second .if2 .left in
+    (none-two q (x .j) o1 o2, search needs)
 
 add-j3 : tie.Need-add-j3
 add-j3 c = search needs
@@ -97,54 +75,39 @@ element-copy-out-has-word-4 c = search needs
 has-word-requires-4 : tie.Need-has-word-requires-4
 has-word-requires-4 c κs = search needs
 
-add-result-3 : tie.Need-add-result-3
-add-result-3 c = search needs
-
 returns-4 : tie.Need-returns-4
 returns-4 c =
     let third = c .before .before .before in
     let second = third .before .before .before in
     let first = second .before .before .before in
     let x = first .before .before .before .args in
-    let es = now (x .entries) in
-    let q = ofWord es (x .p) (x .word) in
-    let n0 = none-yet q (x .i) in
-    let o1 = other-word es (x .p) (x .word) (x .i) _ _ (first .before .has-word .ensures) (first .if1 .left) (search needs) (search needs) in
-    let n1 = none-next q (x .i) (x .i) (x .i + 1) n0 o1 (omega arith) in
-    let o2 = other-word es (x .p) (x .word) (x .i + 1) _ _ (second .before .has-word2 .ensures) (second .if2 .left) (search needs) (search needs) in
-    let n2 = none-next q (x .i) (x .i + 1) (x .i + 2) n1 o2 (omega arith) in
-    let o3 = other-word es (x .p) (x .word) (x .i + 2) _ _ (third .before .has-word3 .ensures) (third .if3 .left) (search needs) (search needs) in
-    let n3 = none-next q (x .i) (x .i + 2) (x .i + 3) n2 o3 (omega arith) in
-    (n3, search needs)
+    let q = ofWord (now (x .entries)) (x .word) in
+    let o1 = sym (first .before .has-word .ensures) ∙ first .if1 .left in
+    let o2 = sym (second .before .has-word2 .ensures) ∙ second .if2 .left in
+    let o3 = sym (third .before .has-word3 .ensures) ∙ third .if3 .left in
+    (none-three q (x .j) o1 o2 o3, search needs)
 
-add-result-4 : tie.Need-add-result-4
-add-result-4 c = search needs
+add-result : tie.Need-add-result
+add-result c = search needs
 
 returns-5 : tie.Need-returns-5
 returns-5 c =
-    let third = c .before .before .before in
+    let fourth = c in
+    let third = fourth .before .before .before in
     let second = third .before .before .before in
     let first = second .before .before .before in
     let x = first .before .before .before .args in
-    let es = now (x .entries) in
-    let q = ofWord es (x .p) (x .word) in
-    let n0 = none-yet q (x .i) in
-    let o1 = other-word es (x .p) (x .word) (x .i) _ _ (first .before .has-word .ensures) (first .if1 .left) (search needs) (search needs) in
-    let n1 = none-next q (x .i) (x .i) (x .i + 1) n0 o1 (omega arith) in
-    let o2 = other-word es (x .p) (x .word) (x .i + 1) _ _ (second .before .has-word2 .ensures) (second .if2 .left) (search needs) (search needs) in
-    let n2 = none-next q (x .i) (x .i + 1) (x .i + 2) n1 o2 (omega arith) in
-    let o3 = other-word es (x .p) (x .word) (x .i + 2) _ _ (third .before .has-word3 .ensures) (third .if3 .left) (search needs) (search needs) in
-    let n3 = none-next q (x .i) (x .i + 2) (x .i + 3) n2 o3 (omega arith) in
-    let o4 = other-word es (x .p) (x .word) (x .i + 3) _ _ (c .before .has-word4 .ensures) (c .if4 .left) (search needs) (search needs) in
-    let n4 = none-next q (x .i) (x .i + 3) (x .i + 4) n3 o4 (omega arith) in
-    (n4, search needs)
+    let q = ofWord (now (x .entries)) (x .word) in
+    let o1 = sym (first .before .has-word .ensures) ∙ first .if1 .left in
+    let o2 = sym (second .before .has-word2 .ensures) ∙ second .if2 .left in
+    let o3 = sym (third .before .has-word3 .ensures) ∙ third .if3 .left in
+    let o4 = sym (fourth .before .has-word4 .ensures) ∙ fourth .if4 .left in
+    (none-four q (x .j) o1 o2 o3 o4, search needs)
 
 pub skip-words-spec : {M : Type 1} → statement M
 skip-words-spec =
     tie.close
     (tie.spec
-    mul-j
-    add-j
     mul-has-word
     element-copy-out-has-word
     has-word-requires
@@ -153,19 +116,16 @@ skip-words-spec =
     mul-has-word-2
     element-copy-out-has-word-2
     has-word-requires-2
-    add-result
     returns-2
     add-j2
     mul-has-word-3
     element-copy-out-has-word-3
     has-word-requires-3
-    add-result-2
     returns-3
     add-j3
     mul-has-word-4
     element-copy-out-has-word-4
     has-word-requires-4
-    add-result-3
     returns-4
-    add-result-4
+    add-result
     returns-5)
