@@ -1,7 +1,7 @@
 use borrow.Author.Tests.{lt-ltb, le-ltb}
 use borrow.Author.Needs.{needs}
-use Rattle.caches.proofs.reach.Statement.{statement}
-use Rattle.caches.proofs.reach.Tie as tie
+use Rattle.caches.proofs.places.reach.Statement.{statement}
+use Rattle.caches.proofs.places.reach.Tie as tie
 
 returns : tie.Need-returns
 returns c = (rw (lt-ltb _ _ (c .if1 .taken)), search needs)

@@ -3,8 +3,8 @@ use borrow.Author.Tests.{not-false}
 use Rattle.caches.proofs.Round.{none, none-yet, none-on}
 use Rattle.caches.proofs.Words.{isUsed}
 use borrow.Author.Needs.{needs}
-use Rattle.caches.proofs.next_used.Statement.{statement}
-use Rattle.caches.proofs.next_used.Tie as tie
+use Rattle.caches.proofs.places.next_used.Statement.{statement}
+use Rattle.caches.proofs.places.next_used.Tie as tie
 
 abbrev Inv-loop : tie.InvT-loop
 Inv-loop entries end j at₀ at = (j ≤ at) × (at ≤ end) × none (isUsed entries) j at

@@ -3,8 +3,8 @@ use denote.Ref.{now}
 use Rattle.caches.proofs.Round.{none-yet, none-one, none-two, none-three, none-four}
 use Rattle.caches.proofs.Words.{isInvalid, not-invalid}
 use borrow.Author.Needs.{needs}
-use Rattle.caches.proofs.skip_valid.Statement.{statement}
-use Rattle.caches.proofs.skip_valid.Tie as tie
+use Rattle.caches.proofs.places.skip_valid.Statement.{statement}
+use Rattle.caches.proofs.places.skip_valid.Tie as tie
 
 mul-j : tie.Need-mul-j
 mul-j c = search needs

@@ -4,8 +4,8 @@ use borrow.Author.Tests.{eqb-true}
 use Rattle.caches.proofs.Round.{none-four}
 use Rattle.caches.proofs.Words.{isUsed, unused}
 use borrow.Author.Needs.{needs}
-use Rattle.caches.proofs.four_unused.Statement.{statement}
-use Rattle.caches.proofs.four_unused.Tie as tie
+use Rattle.caches.proofs.places.four_unused.Statement.{statement}
+use Rattle.caches.proofs.places.four_unused.Tie as tie
 
 mul-if1 : tie.Need-mul-if1
 mul-if1 c = search needs

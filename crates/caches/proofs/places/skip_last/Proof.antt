@@ -1,7 +1,7 @@
 use native.Mathlib.Omega.{arith}
 use borrow.Author.Needs.{needs}
-use Rattle.caches.proofs.skip_last.Statement.{statement}
-use Rattle.caches.proofs.skip_last.Tie as tie
+use Rattle.caches.proofs.places.skip_last.Statement.{statement}
+use Rattle.caches.proofs.places.skip_last.Tie as tie
 
 add-if1 : tie.Need-add-if1
 add-if1 c = search needs

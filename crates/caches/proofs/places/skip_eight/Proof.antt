@@ -3,8 +3,8 @@ use denote.Ref.{now}
 use Rattle.caches.proofs.Round.{none-on}
 use Rattle.caches.proofs.Words.{ofWord}
 use borrow.Author.Needs.{needs}
-use Rattle.caches.proofs.skip_eight.Statement.{statement}
-use Rattle.caches.proofs.skip_eight.Tie as tie
+use Rattle.caches.proofs.places.skip_eight.Statement.{statement}
+use Rattle.caches.proofs.places.skip_eight.Tie as tie
 
 skip-words-requires : tie.Need-skip-words-requires
 skip-words-requires c κs = search needs

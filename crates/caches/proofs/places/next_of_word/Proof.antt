@@ -3,8 +3,8 @@ use denote.Ref.{now}
 use Rattle.caches.proofs.Round.{none, none-yet, none-on}
 use Rattle.caches.proofs.Words.{ofWord, not-of-word, not-used}
 use borrow.Author.Needs.{needs}
-use Rattle.caches.proofs.next_of_word.Statement.{statement}
-use Rattle.caches.proofs.next_of_word.Tie as tie
+use Rattle.caches.proofs.places.next_of_word.Statement.{statement}
+use Rattle.caches.proofs.places.next_of_word.Tie as tie
 
 abbrev Inv-loop : tie.InvT-loop
 Inv-loop entries end j word at₀ at = (j ≤ at) × (at ≤ end) × none (ofWord entries word) j at

@@ -3,8 +3,8 @@ use denote.Ref.{now}
 use Rattle.caches.proofs.Round.{none-yet, none-one, none-two, none-three, none-four}
 use Rattle.caches.proofs.Words.{ofWord}
 use borrow.Author.Needs.{needs}
-use Rattle.caches.proofs.skip_words.Statement.{statement}
-use Rattle.caches.proofs.skip_words.Tie as tie
+use Rattle.caches.proofs.places.skip_words.Statement.{statement}
+use Rattle.caches.proofs.places.skip_words.Tie as tie
 
 mul-has-word : tie.Need-mul-has-word
 mul-has-word c = search needs

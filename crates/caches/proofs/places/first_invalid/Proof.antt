@@ -3,8 +3,8 @@ use native.Mathlib.Omega.{arith}
 use Rattle.caches.proofs.Round.{none, none-yet, none-on}
 use Rattle.caches.proofs.Words.{isInvalid}
 use borrow.Author.Needs.{needs}
-use Rattle.caches.proofs.first_invalid.Statement.{statement}
-use Rattle.caches.proofs.first_invalid.Tie as tie
+use Rattle.caches.proofs.places.first_invalid.Statement.{statement}
+use Rattle.caches.proofs.places.first_invalid.Tie as tie
 
 abbrev Inv-loop : tie.InvT-loop
 Inv-loop entries p n m at₀ at = (at ≤ m) × none (isInvalid entries p) 0 at

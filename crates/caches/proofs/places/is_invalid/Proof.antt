@@ -1,6 +1,6 @@
 use borrow.Author.Needs.{needs}
-use Rattle.caches.proofs.is_invalid.Statement.{statement}
-use Rattle.caches.proofs.is_invalid.Tie as tie
+use Rattle.caches.proofs.places.is_invalid.Statement.{statement}
+use Rattle.caches.proofs.places.is_invalid.Tie as tie
 
 tag-of-requires : tie.Need-tag-of-requires
 tag-of-requires c κs = search needs
