@@ -140,7 +140,7 @@ fn is_invalid(x: u64) -> bool
     entry::packed::tag_of(x) == INVALID
 }
 
-// Four places from i on are looked at. No place from i to before the answer is invalid.
+// No entry of p from i to before the answer is invalid.
 fn skip_valid(entries: &Copies, p: usize, i: usize) -> usize
     requires { ⌜ i + 4 ≤ 64 ⌝ }
     ensures { λ r. ⌜ ((k : ℕ) → i ≤ k → k < r → eqb (copyAt (now (entries .entry)) p k .tag) INVALID ≡ false) ⌝ }
@@ -165,7 +165,7 @@ fn skip_valid(entries: &Copies, p: usize, i: usize) -> usize
     i + 4
 }
 
-// No place before the answer is invalid. Long transactions fill the lower entries.
+// No entry of p before the answer is invalid. Long transactions fill the lower entries.
 pub(crate) fn first_invalid(entries: &Copies, p: usize, n: usize) -> usize
     ensures { λ r. ⌜ ((k : ℕ) → k < r → eqb (copyAt (now (entries .entry)) p k .tag) INVALID ≡ false) ⌝ }
 {
