@@ -14,10 +14,11 @@ ghost use Rattle.machine.specs.State.{cachesOf};
 ghost use Rattle.machine.specs.Making.{dims, makeOf};
 ghost use Rattle.machine.specs.SoundTest.{soundOf};
 ghost use Rattle.machine.specs.Step.{stepOf, settledOf};
+ghost use Rattle.machine.specs.Lent.{before};
 
 // A refused making hands back the smallest machine.
 pub fn make(processors: usize, words: usize, lines: usize, entries: usize, memory: &[u32]) -> Made
-    ensures { λ r. ⌜ r ≡ makeOf (dims processors words lines entries) (now (memory .entry)) ⌝ }
+    ensures { λ r. ⌜ r ≡ makeOf (dims processors words lines entries) (before memory) ⌝ }
 {
     let d = Dims {
         processors: processors,

@@ -7,9 +7,10 @@ ghost use Prim.Native.Nat.{_≤_};
 ghost use lib.ListN.{length};
 ghost use Rattle.machine.specs.State.{machineOf};
 ghost use Rattle.machine.specs.Making.{makeRefusal, padded, freshFlags, fresh, smallest};
+ghost use Rattle.machine.specs.Lent.{before};
 
 pub(crate) fn make_refusal(d: Dims, memory: &[u32]) -> u8
-    ensures { λ r. ⌜ r ≡ makeRefusal d (now (memory .entry)) ⌝ }
+    ensures { λ r. ⌜ r ≡ makeRefusal d (before memory) ⌝ }
 {
     let k = sound::dims::dims_refusal(d);
     if k != 0 {
@@ -24,7 +25,7 @@ pub(crate) fn make_refusal(d: Dims, memory: &[u32]) -> u8
 
 fn fresh_memory(memory: &[u32]) -> [u32; 256]
     requires { ⌜ length (now memory) ≤ 256 ⌝ }
-    ensures { λ r. ⌜ r ≡ padded 256 (now (memory .entry)) ⌝ }
+    ensures { λ r. ⌜ r ≡ padded 256 (before memory) ⌝ }
 {
     let mut whole = [0u32; 256];
     let n = memory.len();
@@ -51,7 +52,7 @@ fn fresh_flags(processors: usize) -> [u8; 16]
 
 pub(crate) fn fresh_machine(d: Dims, memory: &[u32]) -> Machine
     requires { ⌜ (length (now memory) ≤ 256) × (d .processors ≤ 8) ⌝ }
-    ensures { λ r. ⌜ r ≡ machineOf d (fresh d (now (memory .entry))) ⌝ }
+    ensures { λ r. ⌜ r ≡ machineOf d (fresh d (before memory)) ⌝ }
 {
     let whole = fresh_memory(memory);
     let flags = fresh_flags(d.processors);

@@ -10,8 +10,8 @@ use machine::Dims;
 use machine::Flags;
 use machine::Memory;
 ghost use mathlib.Core.Path.{_≡_};
-ghost use Rattle.machine.specs.State.{caches};
 ghost use Rattle.machine.specs.Settled.{isDirty, isSettling, settlingEntry, settles, settler, settledIn};
+ghost use Rattle.machine.specs.Lent.{before, lent};
 
 fn is_dirty(e: Entry, word: u8) -> bool
     ensures { λ r. ⌜ r ≡ isDirty e word ⌝ }
@@ -35,7 +35,7 @@ fn is_settling(e: Entry, word: u8) -> bool
 }
 
 fn settling_entry(entries: &Copies, q: usize, n: usize, word: u8) -> usize
-    ensures { λ r. ⌜ r ≡ settlingEntry (now (entries .entry)) q n word ⌝ }
+    ensures { λ r. ⌜ r ≡ settlingEntry (before entries) q n word ⌝ }
 {
     let base = q % 8 * 64;
     let mut i: usize = 0;
@@ -54,7 +54,7 @@ fn settling_entry(entries: &Copies, q: usize, n: usize, word: u8) -> usize
 }
 
 fn does_settle(lines: &Copies, entries: &Copies, d: Dims, i: usize, word: u8, q: usize) -> bool
-    ensures { λ r. ⌜ r ≡ settles d i word (now (lines .entry)) (now (entries .entry)) q ⌝ }
+    ensures { λ r. ⌜ r ≡ settles d i word (before lines) (before entries) q ⌝ }
 {
     let j = q % 8 * 64 + i % 64;
     let e = Entry::unpack(lines[j]);
@@ -66,7 +66,7 @@ fn does_settle(lines: &Copies, entries: &Copies, d: Dims, i: usize, word: u8, q:
 }
 
 fn find_settler(lines: &Copies, entries: &Copies, d: Dims, i: usize, word: u8) -> usize
-    ensures { λ r. ⌜ r ≡ settler d i word (now (lines .entry)) (now (entries .entry)) ⌝ }
+    ensures { λ r. ⌜ r ≡ settler d i word (before lines) (before entries) ⌝ }
 {
     let n = d.processors;
     let mut q: usize = 0;
@@ -90,7 +90,7 @@ pub(crate) fn settled_in(
     d: Dims,
     word: u8,
 ) -> u32
-    ensures { λ r. ⌜ r ≡ settledIn d word (caches (now (memory .entry)) (now (lines .entry)) (now (entries .entry)) (now (flags .entry))) ⌝ }
+    ensures { λ r. ⌜ r ≡ settledIn d word (lent memory lines entries flags) ⌝ }
 {
     let i = caches::home(d, word);
     let q = find_settler(lines, entries, d, i, word);

@@ -23,6 +23,7 @@ ghost use Rattle.machine.specs.Own.{home, holds, hasEntry, findEntry, isFree, l
 ghost use Rattle.machine.specs.Rollback.{rolledEntries, statusDown, committedEntries};
 ghost use Rattle.machine.specs.Bus.{writtenBack, writes};
 ghost use Rattle.caches.specs.Own.{ownEntry};
+ghost use Rattle.machine.specs.Lent.{before, after};
 
 // Whether it is a tentative entry; its place is the number of entries where there is none.
 pub struct Own {
@@ -52,7 +53,7 @@ pub fn holds(e: Entry, word: u8) -> bool
 fn find_from(entries: &Copies, p: usize, n: usize, from: usize, tag: u8, word: u8) -> usize
     requires { ⌜ tag ≢ INVALID ⌝ }
     requires { ⌜ ((k : ℕ) → k < from → hasEntry (now entries) p tag word k ≡ false) ⌝ }
-    ensures { λ r. ⌜ r ≡ findEntry (now (entries .entry)) p n tag word ⌝ }
+    ensures { λ r. ⌜ r ≡ findEntry (before entries) p n tag word ⌝ }
 {
     let m = places::reach(n);
     if from >= m {
@@ -78,19 +79,19 @@ fn find_from(entries: &Copies, p: usize, n: usize, from: usize, tag: u8, word: u
 }
 
 pub fn find_tentative(entries: &Copies, p: usize, n: usize, word: u8) -> usize
-    ensures { λ r. ⌜ r ≡ findEntry (now (entries .entry)) p n TENTATIVE word ⌝ }
+    ensures { λ r. ⌜ r ≡ findEntry (before entries) p n TENTATIVE word ⌝ }
 {
     find_from(entries, p, n, 0, TENTATIVE, word)
 }
 
 pub fn find_normal(entries: &Copies, p: usize, n: usize, word: u8) -> usize
-    ensures { λ r. ⌜ r ≡ findEntry (now (entries .entry)) p n NORMAL word ⌝ }
+    ensures { λ r. ⌜ r ≡ findEntry (before entries) p n NORMAL word ⌝ }
 {
     find_from(entries, p, n, 0, NORMAL, word)
 }
 
 pub fn live_entry(entries: &Copies, p: usize, n: usize, word: u8) -> usize
-    ensures { λ r. ⌜ r ≡ liveEntry (now (entries .entry)) p n word ⌝ }
+    ensures { λ r. ⌜ r ≡ liveEntry (before entries) p n word ⌝ }
 {
     let m = places::reach(n);
     let base = p % 8 * 64;
@@ -115,7 +116,7 @@ pub fn live_entry(entries: &Copies, p: usize, n: usize, word: u8) -> usize
 // A processor's own entry of a word: the tentative one, else the NORMAL one. Behind a NORMAL entry there is no tentative one in a sound
 // state.
 pub fn own_entry(entries: &Copies, p: usize, n: usize, word: u8) -> Own
-    ensures { λ r. ⌜ r ≡ ownEntry (now (entries .entry)) p n word ⌝ }
+    ensures { λ r. ⌜ r ≡ ownEntry (before entries) p n word ⌝ }
 {
     let i = live_entry(entries, p, n, word);
     if i >= n {
@@ -148,7 +149,7 @@ pub fn own_entry(entries: &Copies, p: usize, n: usize, word: u8) -> Own
 // No place before `from` is free and has the tag.
 fn lowest(entries: &Copies, p: usize, n: usize, tag: u8, taken: usize, from: usize) -> usize
     requires { ⌜ ((k : ℕ) → k < from → isFree (now entries) p tag taken k ≡ false) ⌝ }
-    ensures { λ r. ⌜ r ≡ lowest (now (entries .entry)) p n tag taken ⌝ }
+    ensures { λ r. ⌜ r ≡ lowest (before entries) p n tag taken ⌝ }
 {
     let base = p % 8 * 64;
     let mut i: usize = from;
@@ -167,7 +168,7 @@ fn lowest(entries: &Copies, p: usize, n: usize, tag: u8, taken: usize, from: usi
 }
 
 pub fn free_slot(entries: &Copies, p: usize, n: usize, taken: usize) -> usize
-    ensures { λ r. ⌜ r ≡ freeSlot (now (entries .entry)) p n taken ⌝ }
+    ensures { λ r. ⌜ r ≡ freeSlot (before entries) p n taken ⌝ }
 {
     let from = places::first_invalid(entries, p, n);
     let i = lowest(entries, p, n, INVALID, taken, from);
@@ -182,7 +183,7 @@ pub fn free_slot(entries: &Copies, p: usize, n: usize, taken: usize) -> usize
 }
 
 pub fn rollback(entries: &mut Copies, flags: &mut Flags, p: usize, n: usize)
-    ensures { λ r. ⌜ (now (entries .exit) ≡ rolledEntries (now (entries .entry)) p n) × (now (flags .exit) ≡ statusDown (now (flags .entry)) p) ⌝ }
+    ensures { λ r. ⌜ (after entries ≡ rolledEntries (before entries) p n) × (after flags ≡ statusDown (before flags) p) ⌝ }
 {
     let base = p % 8 * 64;
     let mut i: usize = 0;
@@ -196,7 +197,7 @@ pub fn rollback(entries: &mut Copies, flags: &mut Flags, p: usize, n: usize)
 }
 
 pub fn commit_entries(entries: &mut Copies, p: usize, n: usize)
-    ensures { λ r. ⌜ now (entries .exit) ≡ committedEntries (now (entries .entry)) p n ⌝ }
+    ensures { λ r. ⌜ after entries ≡ committedEntries (before entries) p n ⌝ }
 {
     let base = p % 8 * 64;
     let mut i: usize = 0;
@@ -209,7 +210,7 @@ pub fn commit_entries(entries: &mut Copies, p: usize, n: usize)
 
 // Answers how many WRITE that is.
 pub fn write_back(memory: &mut Memory, e: Entry) -> u8
-    ensures { λ r. ⌜ (now (memory .exit) ≡ writtenBack (now (memory .entry)) e) × (r ≡ writes e) ⌝ }
+    ensures { λ r. ⌜ (after memory ≡ writtenBack (before memory) e) × (r ≡ writes e) ⌝ }
 {
     if e.state != DIRTY {
         return 0;
@@ -221,7 +222,7 @@ pub fn write_back(memory: &mut Memory, e: Entry) -> u8
 
 // Of lines or of entries: a copy is written back if DIRTY, and made invalid. Answers how many WRITE that is.
 pub fn clear(memory: &mut Memory, copies: &mut Copies, p: usize, i: usize) -> u8
-    ensures { λ r. ⌜ (now (memory .exit) ≡ writtenBack (now (memory .entry)) (copyAt (now (copies .entry)) p i)) × (now (copies .exit) ≡ withCopy (now (copies .entry)) p i noEntry) × (r ≡ writes (copyAt (now (copies .entry)) p i)) ⌝ }
+    ensures { λ r. ⌜ (after memory ≡ writtenBack (before memory) (copyAt (before copies) p i)) × (after copies ≡ withCopy (before copies) p i noEntry) × (r ≡ writes (copyAt (before copies) p i)) ⌝ }
 {
     let j = p % 8 * 64 + i % 64;
     let e = Entry::unpack(copies[j]);

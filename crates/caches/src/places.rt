@@ -12,6 +12,7 @@ ghost use Rattle.entry.specs.Numbers.{INVALID};
 ghost use Rattle.entry.specs.Packing.{unpack};
 ghost use Rattle.machine.specs.State.{copyAt};
 ghost use Rattle.caches.specs.Own.{used, usedFor};
+ghost use Rattle.machine.specs.Lent.{before};
 
 // Places go round after 64, so that a search need not go further.
 pub(crate) fn reach(n: usize) -> usize
@@ -27,7 +28,7 @@ pub(crate) fn reach(n: usize) -> usize
 // No place from j to before the answer has the word.
 fn skip_words(entries: &Copies, j: usize, word: u8) -> usize
     requires { ⌜ j + 4 ≤ 512 ⌝ }
-    ensures { λ r. ⌜ ((k : ℕ) → j ≤ k → k < r → eqb (unpack (getD (now (entries .entry)) k 0) .word) word ≡ false) ⌝ }
+    ensures { λ r. ⌜ ((k : ℕ) → j ≤ k → k < r → eqb (unpack (getD (before entries) k 0) .word) word ≡ false) ⌝ }
     ensures { λ r. ⌜ (j ≤ r) × (r ≤ j + 4) ⌝ }
 {
     if entry::packed::has_word(entries[j], word) {
@@ -50,7 +51,7 @@ fn skip_words(entries: &Copies, j: usize, word: u8) -> usize
 
 fn skip_eight(entries: &Copies, j: usize, word: u8) -> usize
     requires { ⌜ j + 8 ≤ 512 ⌝ }
-    ensures { λ r. ⌜ ((k : ℕ) → j ≤ k → k < r → eqb (unpack (getD (now (entries .entry)) k 0) .word) word ≡ false) ⌝ }
+    ensures { λ r. ⌜ ((k : ℕ) → j ≤ k → k < r → eqb (unpack (getD (before entries) k 0) .word) word ≡ false) ⌝ }
     ensures { λ r. ⌜ (j ≤ r) × (r ≤ j + 8) ⌝ }
 {
     let k = skip_words(entries, j, word);
@@ -62,7 +63,7 @@ fn skip_eight(entries: &Copies, j: usize, word: u8) -> usize
 
 fn skip_last(entries: &Copies, end: usize, j: usize, word: u8) -> usize
     requires { ⌜ (j ≤ end) × (end ≤ 512) ⌝ }
-    ensures { λ r. ⌜ ((k : ℕ) → j ≤ k → k < r → eqb (unpack (getD (now (entries .entry)) k 0) .word) word ≡ false) ⌝ }
+    ensures { λ r. ⌜ ((k : ℕ) → j ≤ k → k < r → eqb (unpack (getD (before entries) k 0) .word) word ≡ false) ⌝ }
     ensures { λ r. ⌜ j ≤ r ⌝ }
 {
     if j + 4 > end {
@@ -74,7 +75,7 @@ fn skip_last(entries: &Copies, end: usize, j: usize, word: u8) -> usize
 // Whether four places are 0, as an invalid entry is that a step left.
 fn four_unused(entries: &Copies, j: usize) -> bool
     requires { ⌜ j + 4 ≤ 512 ⌝ }
-    ensures { λ r. ⌜ (r ≡ true → (k : ℕ) → j ≤ k → k < j + 4 → used (unpack (getD (now (entries .entry)) k 0)) ≡ false) ⌝ }
+    ensures { λ r. ⌜ (r ≡ true → (k : ℕ) → j ≤ k → k < j + 4 → used (unpack (getD (before entries) k 0)) ≡ false) ⌝ }
 {
     if entries[j] != 0 {
         return false;
@@ -94,7 +95,7 @@ fn four_unused(entries: &Copies, j: usize) -> bool
 // Every place from j to before the answer is invalid.
 fn next_used(entries: &Copies, end: usize, j: usize) -> usize
     requires { ⌜ (j ≤ end) × (end ≤ 512) ⌝ }
-    ensures { λ r. ⌜ ((k : ℕ) → j ≤ k → k < r → used (unpack (getD (now (entries .entry)) k 0)) ≡ false) ⌝ }
+    ensures { λ r. ⌜ ((k : ℕ) → j ≤ k → k < r → used (unpack (getD (before entries) k 0)) ≡ false) ⌝ }
     ensures { λ r. ⌜ j ≤ r ⌝ }
 {
     let mut at: usize = j;
@@ -114,7 +115,7 @@ fn next_used(entries: &Copies, end: usize, j: usize) -> usize
 // the word.
 pub(crate) fn next_of_word(entries: &Copies, end: usize, j: usize, word: u8) -> usize
     requires { ⌜ (j ≤ end) × (end ≤ 512) ⌝ }
-    ensures { λ r. ⌜ ((k : ℕ) → j ≤ k → k < r → usedFor (unpack (getD (now (entries .entry)) k 0)) word ≡ false) ⌝ }
+    ensures { λ r. ⌜ ((k : ℕ) → j ≤ k → k < r → usedFor (unpack (getD (before entries) k 0)) word ≡ false) ⌝ }
     ensures { λ r. ⌜ j ≤ r ⌝ }
 {
     if word == 0 {
@@ -143,7 +144,7 @@ fn is_invalid(x: u64) -> bool
 // No entry of p from i to before the answer is invalid.
 fn skip_valid(entries: &Copies, p: usize, i: usize) -> usize
     requires { ⌜ i + 4 ≤ 64 ⌝ }
-    ensures { λ r. ⌜ ((k : ℕ) → i ≤ k → k < r → eqb (copyAt (now (entries .entry)) p k .tag) INVALID ≡ false) ⌝ }
+    ensures { λ r. ⌜ ((k : ℕ) → i ≤ k → k < r → eqb (copyAt (before entries) p k .tag) INVALID ≡ false) ⌝ }
     ensures { λ r. ⌜ (i ≤ r) × (r ≤ i + 4) ⌝ }
 {
     let j = p % 8 * 64 + i;
@@ -167,7 +168,7 @@ fn skip_valid(entries: &Copies, p: usize, i: usize) -> usize
 
 // No entry of p before the answer is invalid. Long transactions fill the lower entries.
 pub(crate) fn first_invalid(entries: &Copies, p: usize, n: usize) -> usize
-    ensures { λ r. ⌜ ((k : ℕ) → k < r → eqb (copyAt (now (entries .entry)) p k .tag) INVALID ≡ false) ⌝ }
+    ensures { λ r. ⌜ ((k : ℕ) → k < r → eqb (copyAt (before entries) p k .tag) INVALID ≡ false) ⌝ }
 {
     let m = reach(n);
     let mut at: usize = 0;

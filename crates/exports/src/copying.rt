@@ -5,10 +5,11 @@ use machine::Flags;
 use machine::Memory;
 ghost use mathlib.Core.Path.{_≡_};
 ghost use lib.ListN.{length};
+ghost use Rattle.machine.specs.Lent.{before, after};
 
 pub(crate) fn memory_of(lent: &[u32]) -> Memory
     requires { ⌜ length (now lent) ≡ 256 ⌝ }
-    ensures { λ r. ⌜ r ≡ now (lent .entry) ⌝ }
+    ensures { λ r. ⌜ r ≡ before lent ⌝ }
 {
     let mut whole = [0u32; 256];
     let mut i: usize = 0;
@@ -21,7 +22,7 @@ pub(crate) fn memory_of(lent: &[u32]) -> Memory
 
 pub(crate) fn copies_of(lent: &[u64]) -> Copies
     requires { ⌜ length (now lent) ≡ 512 ⌝ }
-    ensures { λ r. ⌜ r ≡ now (lent .entry) ⌝ }
+    ensures { λ r. ⌜ r ≡ before lent ⌝ }
 {
     let mut whole = [0u64; 512];
     let mut i: usize = 0;
@@ -34,7 +35,7 @@ pub(crate) fn copies_of(lent: &[u64]) -> Copies
 
 pub(crate) fn flags_of(lent: &[u8]) -> Flags
     requires { ⌜ length (now lent) ≡ 16 ⌝ }
-    ensures { λ r. ⌜ r ≡ now (lent .entry) ⌝ }
+    ensures { λ r. ⌜ r ≡ before lent ⌝ }
 {
     let mut whole = [0u8; 16];
     let mut i: usize = 0;
@@ -47,7 +48,7 @@ pub(crate) fn flags_of(lent: &[u8]) -> Flags
 
 pub(crate) fn put_memory(lent: &mut [u32], whole: &Memory)
     requires { ⌜ (length (now lent) ≡ 256) × (length (now whole) ≡ 256) ⌝ }
-    ensures { λ r. ⌜ now (lent .exit) ≡ now (whole .entry) ⌝ }
+    ensures { λ r. ⌜ after lent ≡ before whole ⌝ }
 {
     let mut i: usize = 0;
     while i < 256 {
@@ -58,7 +59,7 @@ pub(crate) fn put_memory(lent: &mut [u32], whole: &Memory)
 
 pub(crate) fn put_copies(lent: &mut [u64], whole: &Copies)
     requires { ⌜ (length (now lent) ≡ 512) × (length (now whole) ≡ 512) ⌝ }
-    ensures { λ r. ⌜ now (lent .exit) ≡ now (whole .entry) ⌝ }
+    ensures { λ r. ⌜ after lent ≡ before whole ⌝ }
 {
     let mut i: usize = 0;
     while i < 512 {
@@ -69,7 +70,7 @@ pub(crate) fn put_copies(lent: &mut [u64], whole: &Copies)
 
 pub(crate) fn put_flags(lent: &mut [u8], whole: &Flags)
     requires { ⌜ (length (now lent) ≡ 16) × (length (now whole) ≡ 16) ⌝ }
-    ensures { λ r. ⌜ now (lent .exit) ≡ now (whole .entry) ⌝ }
+    ensures { λ r. ⌜ after lent ≡ before whole ⌝ }
 {
     let mut i: usize = 0;
     while i < 16 {

@@ -9,10 +9,9 @@ use crate::state::machine_of;
 use crate::state::put_machine;
 use machine::Dims;
 ghost use mathlib.Core.Path.{_≡_};
-ghost use Rattle.machine.specs.State.{caches};
 ghost use Rattle.machine.specs.Making.{dims};
-ghost use Rattle.machine.specs.Run.{steps, columns};
 ghost use Rattle.exports.specs.Lent.{handed, makeIn, told, settledTold, leftIn, runIn};
+ghost use Rattle.machine.specs.Lent.{before, after, lent, returned, lentSteps, columnsOf};
 
 // The fresh state goes into the four arrays; initial is the memory that the caller gives.
 #[no_mangle]
@@ -27,7 +26,7 @@ pub extern "C" fn stirnfeld_make(
     transactional: &mut [u64],
     flags: &mut [u8],
 ) -> u8
-    ensures { λ r. ⌜ handed r (caches (now (memory .exit)) (now (regular .exit)) (now (transactional .exit)) (now (flags .exit))) ≡ makeIn (dims processors words lines entries) (now (initial .entry)) (caches (now (memory .entry)) (now (regular .entry)) (now (transactional .entry)) (now (flags .entry))) ⌝ }
+    ensures { λ r. ⌜ handed r (returned memory regular transactional flags) ≡ makeIn (dims processors words lines entries) (before initial) (lent memory regular transactional flags) ⌝ }
 {
     let made = bus::make(processors, words, lines, entries, initial);
     if made.refusal != 0 {
@@ -54,7 +53,7 @@ pub extern "C" fn stirnfeld_settled(
     word: u32,
     value: &mut u32,
 ) -> u8
-    ensures { λ r. ⌜ told r (now (value .exit)) ≡ settledTold (dims processors words lines entries) (caches (now (memory .entry)) (now (regular .entry)) (now (transactional .entry)) (now (flags .entry))) word ⌝ }
+    ensures { λ r. ⌜ told r (after value) ≡ settledTold (dims processors words lines entries) (lent memory regular transactional flags) word ⌝ }
 {
     if !lengths_ok(memory, regular, transactional, flags) {
         *value = 0;
@@ -97,7 +96,11 @@ pub extern "C" fn stirnfeld_run(
     busy: &mut [u32],
     taken: &mut usize,
 ) -> u8
-    ensures { λ r. ⌜ leftIn (dims processors words lines entries) r (now (taken .exit)) (caches (now (memory .exit)) (now (regular .exit)) (now (transactional .exit)) (now (flags .exit))) (columns (now (answers .exit)) (now (results .exit)) (now (read .exit)) (now (rfo .exit)) (now (write .exit)) (now («t_read» .exit)) (now («t_rfo» .exit)) (now (busy .exit))) ≡ runIn (dims processors words lines entries) (caches (now (memory .entry)) (now (regular .entry)) (now (transactional .entry)) (now (flags .entry))) (steps (now (ops .entry)) (now (cores .entry)) (now («used_words» .entry)) (now (values .entry))) (columns (now (answers .entry)) (now (results .entry)) (now (read .entry)) (now (rfo .entry)) (now (write .entry)) (now («t_read» .entry)) (now («t_rfo» .entry)) (now (busy .entry))) ⌝ }
+    ensures { λ r.
+        let d = dims processors words lines entries in
+        let c = columnsOf answers results read rfo write «t_read» «t_rfo» busy in
+        ⌜ leftIn d r (after taken) (returned memory regular transactional flags) (c .exit) ≡
+        runIn d (lent memory regular transactional flags) (lentSteps ops cores «used_words» values) (c .entry) ⌝ }
 {
     if !lengths_ok(memory, regular, transactional, flags) {
         *taken = 0;

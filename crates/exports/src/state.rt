@@ -7,6 +7,7 @@ ghost use mathlib.Core.Path.{_≡_};
 ghost use Rattle.machine.specs.State.{caches, cachesOf, machineOf};
 ghost use Rattle.machine.specs.Sound.{Lengths};
 ghost use Rattle.machine.specs.SoundTest.{lengthsOk};
+ghost use Rattle.machine.specs.Lent.{lent, returned};
 
 // Arrays of other lengths are no machine's state.
 pub(crate) fn lengths_ok(
@@ -15,7 +16,7 @@ pub(crate) fn lengths_ok(
     transactional: &[u64],
     flags: &[u8],
 ) -> bool
-    ensures { λ r. ⌜ r ≡ lengthsOk (caches (now (memory .entry)) (now (regular .entry)) (now (transactional .entry)) (now (flags .entry))) ⌝ }
+    ensures { λ r. ⌜ r ≡ lengthsOk (lent memory regular transactional flags) ⌝ }
 {
     if memory.len() != 256 {
         return false;
@@ -37,7 +38,7 @@ pub(crate) fn machine_of(
     flags: &[u8],
 ) -> Machine
     requires { ⌜ Lengths (caches (now memory) (now regular) (now transactional) (now flags)) ⌝ }
-    ensures { λ r. ⌜ r ≡ machineOf d (caches (now (memory .entry)) (now (regular .entry)) (now (transactional .entry)) (now (flags .entry))) ⌝ }
+    ensures { λ r. ⌜ r ≡ machineOf d (lent memory regular transactional flags) ⌝ }
 {
     let m = copying::memory_of(memory);
     let l = copying::copies_of(regular);
@@ -60,7 +61,7 @@ pub(crate) fn put_machine(
     flags: &mut [u8],
 )
     requires { ⌜ Lengths (caches (now memory) (now regular) (now transactional) (now flags)) ⌝ }
-    ensures { λ r. ⌜ caches (now (memory .exit)) (now (regular .exit)) (now (transactional .exit)) (now (flags .exit)) ≡ cachesOf m ⌝ }
+    ensures { λ r. ⌜ returned memory regular transactional flags ≡ cachesOf m ⌝ }
 {
     copying::put_memory(memory, &m.memory);
     copying::put_copies(regular, &m.lines);

@@ -11,6 +11,7 @@ ghost use mathlib.Core.Path.{_≡_};
 ghost use Prim.Native.Nat.{_≤_};
 ghost use Rattle.machine.specs.Making.{dims};
 ghost use Rattle.listing.specs.Replay.{leftBy, beginOf, nextPiece};
+ghost use Rattle.machine.specs.Lent.{before, after};
 
 // What stands between two pieces.
 pub struct Replaying {
@@ -37,7 +38,7 @@ fn lent_words(words: usize) -> usize
 
 // The machine has memory zero. One that is refused is replayed too: its listing is the refusal.
 pub fn begin(s: &[u8], processors: usize, words: usize, lines: usize, entries: usize) -> Replaying
-    ensures { λ r. ⌜ r ≡ beginOf (now (s .entry)) (dims processors words lines entries) ⌝ }
+    ensures { λ r. ⌜ r ≡ beginOf (before s) (dims processors words lines entries) ⌝ }
 {
     let memory = [0u32; 256];
     let n = lent_words(words);
@@ -51,7 +52,7 @@ pub fn begin(s: &[u8], processors: usize, words: usize, lines: usize, entries: u
 }
 
 pub fn next_piece(s: &[u8], out: &mut [u8], x: Replaying) -> Piece
-    ensures { λ r. ⌜ leftBy r (now (out .exit)) ≡ nextPiece (now (s .entry)) x (now (out .entry)) ⌝ }
+    ensures { λ r. ⌜ leftBy r (after out) ≡ nextPiece (before s) x (before out) ⌝ }
 {
     let first = x.place;
     let m = x.machine;

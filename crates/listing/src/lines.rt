@@ -11,12 +11,13 @@ ghost use Rattle.entry.specs.Answer.{answerName};
 ghost use Rattle.text.specs.Quoted.{bytes};
 ghost use Rattle.text.specs.Writing.{written, putOf};
 ghost use Rattle.listing.specs.Lines.{mostLine, shown, answerLine, endLine, headerLine};
+ghost use Rattle.machine.specs.Lent.{before, after};
 
 // No line is longer.
 pub(crate) const LINE_MOST: usize = 72;
 
 fn put_name(out: &mut [u8], at: usize, answer: Answer) -> usize
-    ensures { λ r. ⌜ written r (now (out .exit)) ≡ putOf (bytes (answerName answer)) (written at (now (out .entry))) ⌝ }
+    ensures { λ r. ⌜ written r (after out) ≡ putOf (bytes (answerName answer)) (written at (before out)) ⌝ }
 {
     match answer {
         Answer::Value(_) => put_bytes(out, at, b"VALUE"),
@@ -48,7 +49,7 @@ fn shown(answer: Answer) -> u64
 
 pub(crate) fn write_answer(out: &mut [u8], at: usize, number: u64, told: Answered) -> usize
     requires { ⌜ at + mostLine ≤ length (now out) ⌝ }
-    ensures { λ r. ⌜ written r (now (out .exit)) ≡ putOf (answerLine number told) (written at (now (out .entry))) ⌝ }
+    ensures { λ r. ⌜ written r (after out) ≡ putOf (answerLine number told) (written at (before out)) ⌝ }
 {
     let answer = told.answer;
     let counts = told.counts;
@@ -64,7 +65,7 @@ pub(crate) fn write_answer(out: &mut [u8], at: usize, number: u64, told: Answere
 
 pub(crate) fn write_end(out: &mut [u8], at: usize, commits: u64, cycles: u64) -> usize
     requires { ⌜ at + mostLine ≤ length (now out) ⌝ }
-    ensures { λ r. ⌜ written r (now (out .exit)) ≡ putOf (endLine commits cycles) (written at (now (out .entry))) ⌝ }
+    ensures { λ r. ⌜ written r (after out) ≡ putOf (endLine commits cycles) (written at (before out)) ⌝ }
 {
     let a = put_bytes(out, at, b"END,COMMITTED,");
     let b = put_number(out, a, commits);
@@ -74,7 +75,7 @@ pub(crate) fn write_end(out: &mut [u8], at: usize, commits: u64, cycles: u64) ->
 }
 
 pub(crate) fn write_header(out: &mut [u8], at: usize) -> usize
-    ensures { λ r. ⌜ written r (now (out .exit)) ≡ putOf headerLine (written at (now (out .entry))) ⌝ }
+    ensures { λ r. ⌜ written r (after out) ≡ putOf headerLine (written at (before out)) ⌝ }
 {
     put_bytes(out, at, b"record,answer,value,bus\r\n")
 }

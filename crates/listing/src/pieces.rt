@@ -25,10 +25,11 @@ ghost use mathlib.Core.Path.{_≡_};
 ghost use Prim.Native.Nat.{_+_, _≤_};
 ghost use lib.Dec.{leb};
 ghost use lib.ListN.{length};
-ghost use Rattle.machine.specs.State.{Caches, caches};
+ghost use Rattle.machine.specs.State.{Caches};
 ghost use Rattle.listing.specs.Lines.{mostLine};
 ghost use Rattle.listing.specs.Pieces.{carried};
 ghost use Rattle.listing.specs.Listing.{going, doRecord, doOther, doLine, wrote, fillOf};
+ghost use Rattle.machine.specs.Lent.{before, after, lent, returned};
 
 // Where the replay stands, and how much of the buffer is written.
 pub struct Filled {
@@ -48,7 +49,7 @@ fn do_record(
     x: Place,
 ) -> Filled
     requires { ⌜ used + mostLine ≤ length (now out) ⌝ }
-    ensures { λ r. ⌜ carried (going (r .place) (caches (now (memory .exit)) (now (lines .exit)) (now (entries .exit)) (now (flags .exit)))) (r .used) (now (out .exit)) ≡ wrote (doRecord (now (s .entry)) d x (caches (now (memory .entry)) (now (lines .entry)) (now (entries .entry)) (now (flags .entry)))) used (now (out .entry)) ⌝ }
+    ensures { λ r. ⌜ carried (going (r .place) (returned memory lines entries flags)) (r .used) (after out) ≡ wrote (doRecord (before s) d x (lent memory lines entries flags)) used (before out) ⌝ }
 {
     let l = look_at(s, d, x);
     let told = answer_of(memory, lines, entries, flags, d, l);
@@ -64,7 +65,7 @@ fn do_record(
 // The header, a refusal before any record, or the end.
 fn do_other(s: &[u8], out: &mut [u8], used: usize, x: Place) -> Filled
     requires { ⌜ used + mostLine ≤ length (now out) ⌝ }
-    ensures { λ r. ⌜ ((c : Caches) → carried (going (r .place) c) (r .used) (now (out .exit)) ≡ wrote (doOther (now (s .entry)) x c) used (now (out .entry))) ⌝ }
+    ensures { λ r. ⌜ ((c : Caches) → carried (going (r .place) c) (r .used) (after out) ≡ wrote (doOther (before s) x c) used (before out)) ⌝ }
 {
     if x.phase == HEADER {
         let k = write_header(out, used);
@@ -104,7 +105,7 @@ fn do_line(
     x: Place,
 ) -> Filled
     requires { ⌜ used + mostLine ≤ length (now out) ⌝ }
-    ensures { λ r. ⌜ carried (going (r .place) (caches (now (memory .exit)) (now (lines .exit)) (now (entries .exit)) (now (flags .exit)))) (r .used) (now (out .exit)) ≡ wrote (doLine (now (s .entry)) d x (caches (now (memory .entry)) (now (lines .entry)) (now (entries .entry)) (now (flags .entry)))) used (now (out .entry)) ⌝ }
+    ensures { λ r. ⌜ carried (going (r .place) (returned memory lines entries flags)) (r .used) (after out) ≡ wrote (doLine (before s) d x (lent memory lines entries flags)) used (before out) ⌝ }
 {
     if x.phase == RECORD {
         return do_record(s, out, used, memory, lines, entries, flags, d, x);
@@ -131,7 +132,7 @@ pub(crate) fn fill(
     d: Dims,
     first: Place,
 ) -> Filled
-    ensures { λ r. ⌜ carried (going (r .place) (caches (now (memory .exit)) (now (lines .exit)) (now (entries .exit)) (now (flags .exit)))) (r .used) (now (out .exit)) ≡ fillOf (now (s .entry)) d (going first (caches (now (memory .entry)) (now (lines .entry)) (now (entries .entry)) (now (flags .entry)))) (now (out .entry)) ⌝ }
+    ensures { λ r. ⌜ carried (going (r .place) (returned memory lines entries flags)) (r .used) (after out) ≡ fillOf (before s) d (going first (lent memory lines entries flags)) (before out) ⌝ }
 {
     let room = out.len();
     let mut x = first;

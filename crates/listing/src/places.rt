@@ -5,6 +5,7 @@ use text::records::record_end;
 ghost use mathlib.Core.Path.{_≡_};
 ghost use mathlib.Core.Bool.{false};
 ghost use Rattle.listing.specs.Place.{HEADER, place, withPhase, more64, past, phaseAt, firstPhase, beginAt};
+ghost use Rattle.machine.specs.Lent.{before};
 
 // What the next line is, or that none is left.
 pub(crate) const HEADER: u8 = 0;
@@ -44,7 +45,7 @@ pub(crate) fn more(n: u64, k: u64) -> u64
 
 // Past a record's CRLF, if it has one.
 pub(crate) fn past(s: &[u8], end: usize) -> usize
-    ensures { λ r. ⌜ r ≡ past (now (s .entry)) end ⌝ }
+    ensures { λ r. ⌜ r ≡ past (before s) end ⌝ }
 {
     if end < s.len() {
         return end + 2;
@@ -53,7 +54,7 @@ pub(crate) fn past(s: &[u8], end: usize) -> usize
 }
 
 pub(crate) fn phase_at(s: &[u8], at: usize) -> u8
-    ensures { λ r. ⌜ r ≡ phaseAt (now (s .entry)) at ⌝ }
+    ensures { λ r. ⌜ r ≡ phaseAt (before s) at ⌝ }
 {
     if at < s.len() {
         return RECORD;
@@ -63,7 +64,7 @@ pub(crate) fn phase_at(s: &[u8], at: usize) -> u8
 
 // What comes after the listing's own header.
 pub(crate) fn first_phase(s: &[u8], x: Place) -> u8
-    ensures { λ r. ⌜ r ≡ firstPhase (now (s .entry)) x ⌝ }
+    ensures { λ r. ⌜ r ≡ firstPhase (before s) x ⌝ }
 {
     if x.refusal != 0 {
         return REFUSAL;
@@ -102,7 +103,7 @@ fn first_place(refusal: u8, at: usize) -> Place
 }
 
 pub(crate) fn begin_at(s: &[u8], made: u8) -> Place
-    ensures { λ r. ⌜ r ≡ beginAt (now (s .entry)) made ⌝ }
+    ensures { λ r. ⌜ r ≡ beginAt (before s) made ⌝ }
 {
     if made != 0 {
         return first_place(made, 0);

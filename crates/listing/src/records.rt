@@ -17,8 +17,9 @@ use text::records::Record;
 use text::records::read_record;
 use text::records::record_end;
 ghost use mathlib.Core.Path.{_≡_};
-ghost use Rattle.machine.specs.State.{caches, outcome};
+ghost use Rattle.machine.specs.State.{outcome};
 ghost use Rattle.listing.specs.Records.{rises, fieldsRefusal, looked, lookAt, answerOf, isSuccess, phaseAfter, placeAfter, noFields};
+ghost use Rattle.machine.specs.Lent.{before, lent, returned};
 
 const NO_SUCH_STEP: u8 = 6;
 
@@ -75,7 +76,7 @@ fn unread(next: usize, refusal: u8) -> Looked
 }
 
 pub(crate) fn look_at(s: &[u8], d: Dims, x: Place) -> Looked
-    ensures { λ r. ⌜ r ≡ lookAt (now (s .entry)) d x ⌝ }
+    ensures { λ r. ⌜ r ≡ lookAt (before s) d x ⌝ }
 {
     let at = x.at;
     let end = record_end(s, at);
@@ -105,7 +106,7 @@ pub(crate) fn answer_of(
     d: Dims,
     l: Looked,
 ) -> Answered
-    ensures { λ r. ⌜ outcome r (caches (now (memory .exit)) (now (lines .exit)) (now (entries .exit)) (now (flags .exit))) ≡ answerOf d l (caches (now (memory .entry)) (now (lines .entry)) (now (entries .entry)) (now (flags .entry))) ⌝ }
+    ensures { λ r. ⌜ outcome r (returned memory lines entries flags) ≡ answerOf d l (lent memory lines entries flags) ⌝ }
 {
     if l.refusal != 0 {
         return Answered::refused(l.refusal);
@@ -132,7 +133,7 @@ fn successes(answer: Answer) -> u64
 }
 
 fn phase_after(s: &[u8], l: Looked) -> u8
-    ensures { λ r. ⌜ r ≡ phaseAfter (now (s .entry)) l ⌝ }
+    ensures { λ r. ⌜ r ≡ phaseAfter (before s) l ⌝ }
 {
     if l.refusal == TOO_LONG {
         return END;
@@ -141,7 +142,7 @@ fn phase_after(s: &[u8], l: Looked) -> u8
 }
 
 pub(crate) fn place_after(s: &[u8], x: Place, l: Looked, told: Answered) -> Place
-    ensures { λ r. ⌜ r ≡ placeAfter (now (s .entry)) x l told ⌝ }
+    ensures { λ r. ⌜ r ≡ placeAfter (before s) x l told ⌝ }
 {
     let answer = told.answer;
     let counts = told.counts;

@@ -13,3 +13,4 @@ pub mod Sound
 pub mod SoundTest
 pub mod Step
 pub mod Run
+pub mod Lent

@@ -26,6 +26,7 @@ ghost use Rattle.machine.specs.State.{caches, outcome, counted};
 ghost use Rattle.machine.specs.Own.{findEntry};
 ghost use Rattle.machine.specs.Load.{loadMiss, loadOn, load};
 ghost use Rattle.machine.specs.Store.{rollOwn, dropNormal, storeThrough, storeMiss, storeLine, store};
+ghost use Rattle.machine.specs.Lent.{before, after, lent, returned};
 
 // VALUE with no cycles.
 fn hit(v: u32) -> Answered
@@ -123,7 +124,7 @@ fn load_miss(
     p: usize,
     word: u8,
 ) -> Answered
-    ensures { λ r. ⌜ outcome r (caches (now (memory .exit)) (now (lines .exit)) (now (entries .exit)) (now (flags .exit))) ≡ loadMiss d p word (caches (now (memory .entry)) (now (lines .entry)) (now (entries .entry)) (now (flags .entry))) ⌝ }
+    ensures { λ r. ⌜ outcome r (returned memory lines entries flags) ≡ loadMiss d p word (lent memory lines entries flags) ⌝ }
 {
     let i = caches::home(d, word);
     let w = caches::clear(memory, lines, p, i);
@@ -153,7 +154,7 @@ fn load_on(
     i: usize,
 ) -> Answered
     requires { ⌜ i ≡ findEntry (now entries) p (d .entries) NORMAL word ⌝ }
-    ensures { λ r. ⌜ outcome r (caches (now (memory .exit)) (now (lines .exit)) (now (entries .exit)) (now (flags .exit))) ≡ loadOn d p word (caches (now (memory .entry)) (now (lines .entry)) (now (entries .entry)) (now (flags .entry))) ⌝ }
+    ensures { λ r. ⌜ outcome r (returned memory lines entries flags) ≡ loadOn d p word (lent memory lines entries flags) ⌝ }
 {
     if i < d.entries {
         let j = p % 8 * 64 + i % 64;
@@ -172,7 +173,7 @@ pub fn load(
     p: usize,
     word: u8,
 ) -> Answered
-    ensures { λ r. ⌜ outcome r (caches (now (memory .exit)) (now (lines .exit)) (now (entries .exit)) (now (flags .exit))) ≡ load d p word (caches (now (memory .entry)) (now (lines .entry)) (now (entries .entry)) (now (flags .entry))) ⌝ }
+    ensures { λ r. ⌜ outcome r (returned memory lines entries flags) ≡ load d p word (lent memory lines entries flags) ⌝ }
 {
     let h = caches::home(d, word);
     let j = p % 8 * 64 + h % 64;
@@ -197,8 +198,8 @@ pub fn load(
 
 // Answers where the NORMAL entry then stands.
 fn roll_own(entries: &mut Copies, flags: &mut Flags, d: Dims, p: usize, word: u8) -> usize
-    ensures { λ r. ⌜ ((m l : List ℕ) → caches m l (now (entries .exit)) (now (flags .exit)) ≡ rollOwn d p word (caches m l (now (entries .entry)) (now (flags .entry)))) ⌝ }
-    ensures { λ r. ⌜ r ≡ findEntry (now (entries .exit)) p (d .entries) NORMAL word ⌝ }
+    ensures { λ r. ⌜ ((m l : List ℕ) → caches m l (after entries) (after flags) ≡ rollOwn d p word (caches m l (before entries) (before flags))) ⌝ }
+    ensures { λ r. ⌜ r ≡ findEntry (after entries) p (d .entries) NORMAL word ⌝ }
 {
     let own = caches::own_entry(entries, p, d.entries, word);
     if own.tentative {
@@ -217,7 +218,7 @@ fn drop_normal(
     i: usize,
 ) -> u8
     requires { ⌜ i ≡ findEntry (now entries) p (d .entries) NORMAL word ⌝ }
-    ensures { λ r. ⌜ ((l f : List ℕ) → counted r (caches (now (memory .exit)) l (now (entries .exit)) f) ≡ dropNormal d p word (caches (now (memory .entry)) l (now (entries .entry)) f)) ⌝ }
+    ensures { λ r. ⌜ ((l f : List ℕ) → counted r (caches (after memory) l (after entries) f) ≡ dropNormal d p word (caches (before memory) l (before entries) f)) ⌝ }
 {
     if i < d.entries {
         return caches::clear(memory, entries, p, i);
@@ -236,7 +237,7 @@ fn store_through(
     v: u32,
     w: u8,
 ) -> Answered
-    ensures { λ r. ⌜ outcome r (caches (now (memory .exit)) (now (lines .exit)) (now (entries .exit)) (now (flags .exit))) ≡ storeThrough d p word v w (caches (now (memory .entry)) (now (lines .entry)) (now (entries .entry)) (now (flags .entry))) ⌝ }
+    ensures { λ r. ⌜ outcome r (returned memory lines entries flags) ≡ storeThrough d p word v w (lent memory lines entries flags) ⌝ }
 {
     snoop::plain_request(memory, lines, entries, flags, d, p, word, WRITE);
     let a = word as usize;
@@ -264,7 +265,7 @@ fn store_miss(
     v: u32,
     w: u8,
 ) -> Answered
-    ensures { λ r. ⌜ outcome r (caches (now (memory .exit)) (now (lines .exit)) (now (entries .exit)) (now (flags .exit))) ≡ storeMiss d p word v w (caches (now (memory .entry)) (now (lines .entry)) (now (entries .entry)) (now (flags .entry))) ⌝ }
+    ensures { λ r. ⌜ outcome r (returned memory lines entries flags) ≡ storeMiss d p word v w (lent memory lines entries flags) ⌝ }
 {
     let i = caches::home(d, word);
     let w2 = caches::clear(memory, lines, p, i);
@@ -291,7 +292,7 @@ fn store_line(
     v: u32,
     w: u8,
 ) -> Answered
-    ensures { λ r. ⌜ outcome r (caches (now (memory .exit)) (now (lines .exit)) (now (entries .exit)) (now (flags .exit))) ≡ storeLine d p word v (counted w (caches (now (memory .entry)) (now (lines .entry)) (now (entries .entry)) (now (flags .entry)))) ⌝ }
+    ensures { λ r. ⌜ outcome r (returned memory lines entries flags) ≡ storeLine d p word v (counted w (lent memory lines entries flags)) ⌝ }
 {
     let i = caches::home(d, word);
     let j = p % 8 * 64 + i % 64;
@@ -322,7 +323,7 @@ pub fn store(
     word: u8,
     v: u32,
 ) -> Answered
-    ensures { λ r. ⌜ outcome r (caches (now (memory .exit)) (now (lines .exit)) (now (entries .exit)) (now (flags .exit))) ≡ store d p word v (caches (now (memory .entry)) (now (lines .entry)) (now (entries .entry)) (now (flags .entry))) ⌝ }
+    ensures { λ r. ⌜ outcome r (returned memory lines entries flags) ≡ store d p word v (lent memory lines entries flags) ⌝ }
 {
     let i = roll_own(entries, flags, d, p, word);
     let w = drop_normal(memory, entries, d, p, word, i);

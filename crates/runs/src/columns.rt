@@ -5,10 +5,11 @@ ghost use mathlib.Core.Path.{_≡_};
 ghost use lib.Dec.{eqb};
 ghost use lib.ListN.{getD, set};
 ghost use Rattle.laws.specs.Choice.{both};
-ghost use Rattle.machine.specs.Run.{columns, written};
+ghost use Rattle.machine.specs.Run.{written};
+ghost use Rattle.machine.specs.Lent.{before, after, columnsOf};
 
 pub(crate) fn byte_at(column: &[u8], i: usize) -> u8
-    ensures { λ r. ⌜ r ≡ getD (now (column .entry)) i 0 ⌝ }
+    ensures { λ r. ⌜ r ≡ getD (before column) i 0 ⌝ }
 {
     if i < column.len() {
         return column[i];
@@ -17,7 +18,7 @@ pub(crate) fn byte_at(column: &[u8], i: usize) -> u8
 }
 
 pub(crate) fn number_at(column: &[u32], i: usize) -> u32
-    ensures { λ r. ⌜ r ≡ getD (now (column .entry)) i 0 ⌝ }
+    ensures { λ r. ⌜ r ≡ getD (before column) i 0 ⌝ }
 {
     if i < column.len() {
         return column[i];
@@ -26,7 +27,7 @@ pub(crate) fn number_at(column: &[u32], i: usize) -> u32
 }
 
 fn put_byte(column: &mut [u8], i: usize, x: u8)
-    ensures { λ r. ⌜ now (column .exit) ≡ set (now (column .entry)) i x ⌝ }
+    ensures { λ r. ⌜ after column ≡ set (before column) i x ⌝ }
 {
     if i < column.len() {
         column[i] = x;
@@ -34,7 +35,7 @@ fn put_byte(column: &mut [u8], i: usize, x: u8)
 }
 
 fn put_number(column: &mut [u32], i: usize, x: u32)
-    ensures { λ r. ⌜ now (column .exit) ≡ set (now (column .entry)) i x ⌝ }
+    ensures { λ r. ⌜ after column ≡ set (before column) i x ⌝ }
 {
     if i < column.len() {
         column[i] = x;
@@ -53,7 +54,9 @@ pub(crate) fn write_answer(
     i: usize,
     told: Answered,
 )
-    ensures { λ r. ⌜ columns (now (answers .exit)) (now (results .exit)) (now (read .exit)) (now (rfo .exit)) (now (write .exit)) (now («t_read» .exit)) (now («t_rfo» .exit)) (now (busy .exit)) ≡ written (columns (now (answers .entry)) (now (results .entry)) (now (read .entry)) (now (rfo .entry)) (now (write .entry)) (now («t_read» .entry)) (now («t_rfo» .entry)) (now (busy .entry))) i told ⌝ }
+    ensures { λ r.
+        let c = columnsOf answers results read rfo write «t_read» «t_rfo» busy in
+        ⌜ c .exit ≡ written (c .entry) i told ⌝ }
 {
     let answer = told.answer;
     let c = told.counts;

@@ -7,8 +7,9 @@ use crate::columns::also;
 use machine::Machine;
 use machine::Ran;
 ghost use mathlib.Core.Path.{_≡_};
-ghost use Rattle.machine.specs.Run.{steps, columns, columnsOk, runOf};
+ghost use Rattle.machine.specs.Run.{columnsOk, runOf};
 ghost use Rattle.runs.specs.Halting.{leftBy};
+ghost use Rattle.machine.specs.Lent.{lentSteps, columnsOf};
 
 // The columns have one length, at most 65,536.
 fn columns_ok(
@@ -25,7 +26,7 @@ fn columns_ok(
     t_rfo: &[u32],
     busy: &[u32],
 ) -> bool
-    ensures { λ r. ⌜ r ≡ columnsOk (steps (now (ops .entry)) (now (cores .entry)) (now (words .entry)) (now (values .entry))) (columns (now (answers .entry)) (now (results .entry)) (now (read .entry)) (now (rfo .entry)) (now (write .entry)) (now («t_read» .entry)) (now («t_rfo» .entry)) (now (busy .entry))) ⌝ }
+    ensures { λ r. ⌜ r ≡ columnsOk (lentSteps ops cores words values) (columnsOf answers results read rfo write «t_read» «t_rfo» busy .entry) ⌝ }
 {
     let n = ops.len();
     let a = also(n <= 65536, cores.len(), n);
@@ -56,7 +57,9 @@ pub fn run(
     t_rfo: &mut [u32],
     busy: &mut [u32],
 ) -> Ran
-    ensures { λ r. ⌜ leftBy r (columns (now (answers .exit)) (now (results .exit)) (now (read .exit)) (now (rfo .exit)) (now (write .exit)) (now («t_read» .exit)) (now («t_rfo» .exit)) (now (busy .exit))) ≡ runOf m (steps (now (ops .entry)) (now (cores .entry)) (now (words .entry)) (now (values .entry))) (columns (now (answers .entry)) (now (results .entry)) (now (read .entry)) (now (rfo .entry)) (now (write .entry)) (now («t_read» .entry)) (now («t_rfo» .entry)) (now (busy .entry))) ⌝ }
+    ensures { λ r.
+        let c = columnsOf answers results read rfo write «t_read» «t_rfo» busy in
+        ⌜ leftBy r (c .exit) ≡ runOf m (lentSteps ops cores words values) (c .entry) ⌝ }
 {
     if !bus::sound(m) {
         return Ran {

@@ -10,11 +10,12 @@ use machine::Flags;
 use machine::Memory;
 ghost use mathlib.Core.Path.{_≡_};
 ghost use Prim.Native.Nat.{_≤_};
-ghost use Rattle.machine.specs.State.{caches, outcome};
+ghost use Rattle.machine.specs.State.{outcome};
 ghost use Rattle.machine.specs.Refusals.{accepted};
 ghost use Rattle.machine.specs.Step.{stepRefusal, takeStep};
-ghost use Rattle.machine.specs.Run.{steps, columns, carried, runSound};
+ghost use Rattle.machine.specs.Run.{carried, runSound};
 ghost use Rattle.runs.specs.Halting.{halted};
+ghost use Rattle.machine.specs.Lent.{lent, returned, lentSteps, columnsOf};
 
 // refusal is 0 where every step was taken.
 pub struct Halt {
@@ -35,7 +36,7 @@ pub(crate) fn one_step(
     v: u32,
 ) -> Answered
     requires { ⌜ (stepRefusal d op p word ≡ accepted) × (d .words ≤ 256) ⌝ }
-    ensures { λ r. ⌜ outcome r (caches (now (memory .exit)) (now (lines .exit)) (now (entries .exit)) (now (flags .exit))) ≡ takeStep d op p word v (caches (now (memory .entry)) (now (lines .entry)) (now (entries .entry)) (now (flags .entry))) ⌝ }
+    ensures { λ r. ⌜ outcome r (returned memory lines entries flags) ≡ takeStep d op p word v (lent memory lines entries flags) ⌝ }
 {
     let w = (word % 256) as u8;
     steps::take_step(memory, lines, entries, flags, d, op, p, w, v)
@@ -61,7 +62,10 @@ pub(crate) fn run_sound(
     busy: &mut [u32],
 ) -> Halt
     requires { ⌜ d .words ≤ 256 ⌝ }
-    ensures { λ r. ⌜ halted d r (carried (caches (now (memory .exit)) (now (lines .exit)) (now (entries .exit)) (now (flags .exit))) (columns (now (answers .exit)) (now (results .exit)) (now (read .exit)) (now (rfo .exit)) (now (write .exit)) (now («t_read» .exit)) (now («t_rfo» .exit)) (now (busy .exit)))) ≡ runSound d (steps (now (ops .entry)) (now (cores .entry)) (now (words .entry)) (now (values .entry))) (caches (now (memory .entry)) (now (lines .entry)) (now (entries .entry)) (now (flags .entry))) (columns (now (answers .entry)) (now (results .entry)) (now (read .entry)) (now (rfo .entry)) (now (write .entry)) (now («t_read» .entry)) (now («t_rfo» .entry)) (now (busy .entry))) ⌝ }
+    ensures { λ r.
+        let c = columnsOf answers results read rfo write «t_read» «t_rfo» busy in
+        ⌜ halted d r (carried (returned memory lines entries flags) (c .exit)) ≡
+        runSound d (lentSteps ops cores words values) (lent memory lines entries flags) (c .entry) ⌝ }
 {
     let n = ops.len();
     let mut i: usize = 0;

@@ -17,6 +17,7 @@ ghost use Rattle.laws.specs.Choice.{pick};
 ghost use Rattle.machine.specs.State.{caches};
 ghost use Rattle.machine.specs.Bus.{snoop, firstOpposing, refuses, plainRequest};
 ghost use Rattle.snoop.specs.Firsts.{noted};
+ghost use Rattle.machine.specs.Lent.{before, after, lent, returned};
 
 // A place for each processor.
 type Firsts = [usize; 8];
@@ -38,8 +39,8 @@ fn first_opposing(
     cycle: u8,
 ) -> usize
     requires { ⌜ length (now firsts) ≡ 8 ⌝ }
-    ensures { λ r. ⌜ r ≡ firstOpposing d p word cycle (now (entries .entry)) ⌝ }
-    ensures { λ r. ⌜ noted d p word (now (firsts .exit)) (now (entries .entry)) r ⌝ }
+    ensures { λ r. ⌜ r ≡ firstOpposing d p word cycle (before entries) ⌝ }
+    ensures { λ r. ⌜ noted d p word (after firsts) (before entries) r ⌝ }
 {
     let n = d.processors;
     let mut q: usize = 0;
@@ -70,7 +71,7 @@ fn snoop_noted(
 )
     requires { ⌜ d .processors ≤ 8 ⌝ }
     requires { ⌜ noted d p word (now firsts) (now entries) (d .processors) ⌝ }
-    ensures { λ r. ⌜ ((f : List ℕ) → caches (now (memory .exit)) (now (lines .exit)) (now (entries .exit)) f ≡ snoop d p word cycle (caches (now (memory .entry)) (now (lines .entry)) (now (entries .entry)) f)) ⌝ }
+    ensures { λ r. ⌜ ((f : List ℕ) → caches (after memory) (after lines) (after entries) f ≡ snoop d p word cycle (caches (before memory) (before lines) (before entries) f)) ⌝ }
 {
     let i = caches::home(d, word);
     let n = d.processors;
@@ -105,7 +106,7 @@ fn roll_and_snoop(
     cycle: u8,
 )
     requires { ⌜ d .processors ≤ 8 ⌝ }
-    ensures { λ r. ⌜ caches (now (memory .exit)) (now (lines .exit)) (now (entries .exit)) (now (flags .exit)) ≡ plainRequest d p word cycle (caches (now (memory .entry)) (now (lines .entry)) (now (entries .entry)) (now (flags .entry))) ⌝ }
+    ensures { λ r. ⌜ returned memory lines entries flags ≡ plainRequest d p word cycle (lent memory lines entries flags) ⌝ }
 {
     let i = caches::home(d, word);
     let n = d.processors;
@@ -137,8 +138,8 @@ pub fn request(
     word: u8,
     cycle: u8,
 ) -> bool
-    ensures { λ r. ⌜ r ≡ refuses d p word cycle (now (entries .entry)) ⌝ }
-    ensures { λ r. ⌜ ((f : List ℕ) → caches (now (memory .exit)) (now (lines .exit)) (now (entries .exit)) f ≡ pick r (caches (now (memory .entry)) (now (lines .entry)) (now (entries .entry)) f) (snoop d p word cycle (caches (now (memory .entry)) (now (lines .entry)) (now (entries .entry)) f))) ⌝ }
+    ensures { λ r. ⌜ r ≡ refuses d p word cycle (before entries) ⌝ }
+    ensures { λ r. ⌜ ((f : List ℕ) → caches (after memory) (after lines) (after entries) f ≡ pick r (caches (before memory) (before lines) (before entries) f) (snoop d p word cycle (caches (before memory) (before lines) (before entries) f))) ⌝ }
 {
     let mut firsts: Firsts = [0; 8];
     let q = first_opposing(entries, &mut firsts, d, p, word, cycle);
@@ -164,7 +165,7 @@ pub fn plain_request(
     word: u8,
     cycle: u8,
 )
-    ensures { λ r. ⌜ caches (now (memory .exit)) (now (lines .exit)) (now (entries .exit)) (now (flags .exit)) ≡ plainRequest d p word cycle (caches (now (memory .entry)) (now (lines .entry)) (now (entries .entry)) (now (flags .entry))) ⌝ }
+    ensures { λ r. ⌜ returned memory lines entries flags ≡ plainRequest d p word cycle (lent memory lines entries flags) ⌝ }
 {
     if own_places(d) {
         roll_and_snoop(memory, lines, entries, flags, d, p, word, cycle);

@@ -10,6 +10,7 @@ ghost use mathlib.Core.List.{List};
 ghost use Prim.Native.Nat.{ℕ};
 ghost use Rattle.machine.specs.State.{caches};
 ghost use Rattle.machine.specs.Bus.{snoopOne, snoop, rollOne, rollOthers, plainRequest};
+ghost use Rattle.machine.specs.Lent.{before, after, lent, returned};
 
 fn snoop_one(
     memory: &mut Memory,
@@ -22,7 +23,7 @@ fn snoop_one(
     cycle: u8,
     q: usize,
 )
-    ensures { λ r. ⌜ ((d : Dims) → d .entries ≡ n → (f : List ℕ) → caches (now (memory .exit)) (now (lines .exit)) (now (entries .exit)) f ≡ snoopOne d i p word cycle q (caches (now (memory .entry)) (now (lines .entry)) (now (entries .entry)) f)) ⌝ }
+    ensures { λ r. ⌜ ((d : Dims) → d .entries ≡ n → (f : List ℕ) → caches (after memory) (after lines) (after entries) f ≡ snoopOne d i p word cycle q (caches (before memory) (before lines) (before entries) f)) ⌝ }
 {
     if q == p {
         return;
@@ -41,7 +42,7 @@ pub(crate) fn snoop(
     word: u8,
     cycle: u8,
 )
-    ensures { λ r. ⌜ ((f : List ℕ) → caches (now (memory .exit)) (now (lines .exit)) (now (entries .exit)) f ≡ snoop d p word cycle (caches (now (memory .entry)) (now (lines .entry)) (now (entries .entry)) f)) ⌝ }
+    ensures { λ r. ⌜ ((f : List ℕ) → caches (after memory) (after lines) (after entries) f ≡ snoop d p word cycle (caches (before memory) (before lines) (before entries) f)) ⌝ }
 {
     let i = caches::home(d, word);
     let n = d.processors;
@@ -62,7 +63,7 @@ fn roll_one(
     cycle: u8,
     q: usize,
 )
-    ensures { λ r. ⌜ ((d : Dims) → d .entries ≡ n → (m l : List ℕ) → caches m l (now (entries .exit)) (now (flags .exit)) ≡ rollOne d p word cycle q (caches m l (now (entries .entry)) (now (flags .entry)))) ⌝ }
+    ensures { λ r. ⌜ ((d : Dims) → d .entries ≡ n → (m l : List ℕ) → caches m l (after entries) (after flags) ≡ rollOne d p word cycle q (caches m l (before entries) (before flags))) ⌝ }
 {
     if other::other_opposing(entries, n, p, word, cycle, q) {
         caches::rollback(entries, flags, q, n);
@@ -70,7 +71,7 @@ fn roll_one(
 }
 
 fn roll_others(entries: &mut Copies, flags: &mut Flags, d: Dims, p: usize, word: u8, cycle: u8)
-    ensures { λ r. ⌜ ((m l : List ℕ) → caches m l (now (entries .exit)) (now (flags .exit)) ≡ rollOthers d p word cycle (caches m l (now (entries .entry)) (now (flags .entry)))) ⌝ }
+    ensures { λ r. ⌜ ((m l : List ℕ) → caches m l (after entries) (after flags) ≡ rollOthers d p word cycle (caches m l (before entries) (before flags))) ⌝ }
 {
     let n = d.processors;
     let mut q: usize = 0;
@@ -90,7 +91,7 @@ pub(crate) fn plain_request(
     word: u8,
     cycle: u8,
 )
-    ensures { λ r. ⌜ caches (now (memory .exit)) (now (lines .exit)) (now (entries .exit)) (now (flags .exit)) ≡ plainRequest d p word cycle (caches (now (memory .entry)) (now (lines .entry)) (now (entries .entry)) (now (flags .entry))) ⌝ }
+    ensures { λ r. ⌜ returned memory lines entries flags ≡ plainRequest d p word cycle (lent memory lines entries flags) ⌝ }
 {
     roll_others(entries, flags, d, p, word, cycle);
     snoop(memory, lines, entries, d, p, word, cycle);

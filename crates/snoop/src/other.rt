@@ -23,9 +23,10 @@ ghost use Rattle.machine.specs.State.{caches, copyAt, withCopy};
 ghost use Rattle.machine.specs.Own.{liveEntry};
 ghost use Rattle.machine.specs.Bus.{writtenBack, snoopLine, snoopEntry, snoopOne, opposes, otherOpposes, rollOne};
 ghost use Rattle.snoop.specs.Firsts.{firstOf};
+ghost use Rattle.machine.specs.Lent.{before, after, lent, returned};
 
 pub(crate) fn first_of(entries: &Copies, n: usize, p: usize, word: u8, q: usize) -> usize
-    ensures { λ r. ⌜ r ≡ firstOf n p word (now (entries .entry)) q ⌝ }
+    ensures { λ r. ⌜ r ≡ firstOf n p word (before entries) q ⌝ }
 {
     if q == p {
         return n;
@@ -35,7 +36,7 @@ pub(crate) fn first_of(entries: &Copies, n: usize, p: usize, word: u8, q: usize)
 
 // Of lines or of entries: a copy that takes part.
 fn snoop_copy(memory: &mut Memory, copies: &mut Copies, cycle: u8, q: usize, i: usize)
-    ensures { λ r. ⌜ (now (memory .exit) ≡ writtenBack (now (memory .entry)) (copyAt (now (copies .entry)) q i)) × (now (copies .exit) ≡ withCopy (now (copies .entry)) q i (snooped cycle (copyAt (now (copies .entry)) q i))) ⌝ }
+    ensures { λ r. ⌜ (after memory ≡ writtenBack (before memory) (copyAt (before copies) q i)) × (after copies ≡ withCopy (before copies) q i (snooped cycle (copyAt (before copies) q i))) ⌝ }
 {
     let j = q % 8 * 64 + i % 64;
     let e = Entry::unpack(copies[j]);
@@ -52,7 +53,7 @@ pub(crate) fn snoop_line(
     cycle: u8,
     q: usize,
 )
-    ensures { λ r. ⌜ ((e f : List ℕ) → caches (now (memory .exit)) (now (lines .exit)) e f ≡ snoopLine i word cycle q (caches (now (memory .entry)) (now (lines .entry)) e f)) ⌝ }
+    ensures { λ r. ⌜ ((e f : List ℕ) → caches (after memory) (after lines) e f ≡ snoopLine i word cycle q (caches (before memory) (before lines) e f)) ⌝ }
 {
     let j = q % 8 * 64 + i % 64;
     let e = Entry::unpack(lines[j]);
@@ -71,7 +72,7 @@ pub(crate) fn snoop_entry(
     i: usize,
 )
     requires { ⌜ i ≡ liveEntry (now entries) q n word ⌝ }
-    ensures { λ r. ⌜ ((d : Dims) → d .entries ≡ n → (l f : List ℕ) → caches (now (memory .exit)) l (now (entries .exit)) f ≡ snoopEntry d word cycle q (caches (now (memory .entry)) l (now (entries .entry)) f)) ⌝ }
+    ensures { λ r. ⌜ ((d : Dims) → d .entries ≡ n → (l f : List ℕ) → caches (after memory) l (after entries) f ≡ snoopEntry d word cycle q (caches (before memory) l (before entries) f)) ⌝ }
 {
     if i < n {
         snoop_copy(memory, entries, cycle, q, i);
@@ -91,7 +92,7 @@ pub(crate) fn snoop_at(
     first: usize,
 )
     requires { ⌜ first ≡ firstOf n p word (now entries) q ⌝ }
-    ensures { λ r. ⌜ ((d : Dims) → d .entries ≡ n → (f : List ℕ) → caches (now (memory .exit)) (now (lines .exit)) (now (entries .exit)) f ≡ snoopOne d i p word cycle q (caches (now (memory .entry)) (now (lines .entry)) (now (entries .entry)) f)) ⌝ }
+    ensures { λ r. ⌜ ((d : Dims) → d .entries ≡ n → (f : List ℕ) → caches (after memory) (after lines) (after entries) f ≡ snoopOne d i p word cycle q (caches (before memory) (before lines) (before entries) f)) ⌝ }
 {
     if q == p {
         return;
@@ -125,7 +126,7 @@ fn against(e: Entry, cycle: u8) -> bool
 }
 
 fn opposing(entries: &Copies, n: usize, word: u8, cycle: u8, q: usize) -> bool
-    ensures { λ r. ⌜ ((d : Dims) → d .entries ≡ n → r ≡ opposes d word cycle q (now (entries .entry))) ⌝ }
+    ensures { λ r. ⌜ ((d : Dims) → d .entries ≡ n → r ≡ opposes d word cycle q (before entries)) ⌝ }
 {
     let i = caches::find_tentative(entries, q, n, word);
     if i >= n {
@@ -144,7 +145,7 @@ pub(crate) fn other_opposing(
     cycle: u8,
     q: usize,
 ) -> bool
-    ensures { λ r. ⌜ ((d : Dims) → d .entries ≡ n → r ≡ otherOpposes d p word cycle (now (entries .entry)) q) ⌝ }
+    ensures { λ r. ⌜ ((d : Dims) → d .entries ≡ n → r ≡ otherOpposes d p word cycle (before entries) q) ⌝ }
 {
     if q == p {
         return false;
@@ -164,7 +165,7 @@ fn opposing_at(
 ) -> bool
     requires { ⌜ first ≡ firstOf n p word (now entries) q ⌝ }
     requires { ⌜ first < n ⌝ }
-    ensures { λ r. ⌜ ((d : Dims) → d .entries ≡ n → r ≡ otherOpposes d p word cycle (now (entries .entry)) q) ⌝ }
+    ensures { λ r. ⌜ ((d : Dims) → d .entries ≡ n → r ≡ otherOpposes d p word cycle (before entries) q) ⌝ }
 {
     let j = q % 8 * 64 + first % 64;
     let e = Entry::unpack(entries[j]);
@@ -184,7 +185,7 @@ pub(crate) fn opposing_from(
     first: usize,
 ) -> bool
     requires { ⌜ first ≡ firstOf n p word (now entries) q ⌝ }
-    ensures { λ r. ⌜ ((d : Dims) → d .entries ≡ n → r ≡ otherOpposes d p word cycle (now (entries .entry)) q) ⌝ }
+    ensures { λ r. ⌜ ((d : Dims) → d .entries ≡ n → r ≡ otherOpposes d p word cycle (before entries) q) ⌝ }
 {
     if first >= n {
         return false;
@@ -202,8 +203,8 @@ fn roll_one(
     cycle: u8,
     q: usize,
 ) -> usize
-    ensures { λ r. ⌜ ((d : Dims) → d .entries ≡ n → (m l : List ℕ) → caches m l (now (entries .exit)) (now (flags .exit)) ≡ rollOne d p word cycle q (caches m l (now (entries .entry)) (now (flags .entry)))) ⌝ }
-    ensures { λ r. ⌜ r ≡ firstOf n p word (now (entries .exit)) q ⌝ }
+    ensures { λ r. ⌜ ((d : Dims) → d .entries ≡ n → (m l : List ℕ) → caches m l (after entries) (after flags) ≡ rollOne d p word cycle q (caches m l (before entries) (before flags))) ⌝ }
+    ensures { λ r. ⌜ r ≡ firstOf n p word (after entries) q ⌝ }
 {
     let first = first_of(entries, n, p, word, q);
     if first >= n {
@@ -230,7 +231,7 @@ pub(crate) fn roll_and_snoop_one(
     cycle: u8,
     q: usize,
 )
-    ensures { λ r. ⌜ ((d : Dims) → d .entries ≡ n → caches (now (memory .exit)) (now (lines .exit)) (now (entries .exit)) (now (flags .exit)) ≡ snoopOne d i p word cycle q (rollOne d p word cycle q (caches (now (memory .entry)) (now (lines .entry)) (now (entries .entry)) (now (flags .entry))))) ⌝ }
+    ensures { λ r. ⌜ ((d : Dims) → d .entries ≡ n → returned memory lines entries flags ≡ snoopOne d i p word cycle q (rollOne d p word cycle q (lent memory lines entries flags))) ⌝ }
 {
     if q == p {
         return;

@@ -6,13 +6,13 @@ ghost use mathlib.Core.Path.{_≡_};
 ghost use Prim.Native.Nat.{_%_};
 ghost use lib.Dec.{eqb, ltb, leb};
 ghost use Rattle.laws.specs.Choice.{pick};
-ghost use Rattle.machine.specs.State.{caches};
 ghost use Rattle.machine.specs.SoundTest.{lengthsOk, flagsOk, memoryOk};
+ghost use Rattle.machine.specs.Lent.{before, lent};
 
 // The callers' arrays have these lengths by type. The definitions speak of lists, which have any, and an array tells its list's length
 // where it is made a slice.
 pub(crate) fn lengths_ok(memory: &[u32], lines: &[u64], entries: &[u64], flags: &[u8]) -> bool
-    ensures { λ r. ⌜ r ≡ lengthsOk (caches (now (memory .entry)) (now (lines .entry)) (now (entries .entry)) (now (flags .entry))) ⌝ }
+    ensures { λ r. ⌜ r ≡ lengthsOk (lent memory lines entries flags) ⌝ }
 {
     if memory.len() != 256 {
         return false;
@@ -27,7 +27,7 @@ pub(crate) fn lengths_ok(memory: &[u32], lines: &[u64], entries: &[u64], flags: 
 }
 
 pub(crate) fn flags_ok(flags: &Flags, processors: usize) -> bool
-    ensures { λ r. ⌜ r ≡ flagsOk (now (flags .entry)) processors ⌝ }
+    ensures { λ r. ⌜ r ≡ flagsOk (before flags) processors ⌝ }
 {
     let mut j: usize = 0;
     while j < 16 {
@@ -51,7 +51,7 @@ fn flag_ok(flag: u8, processors: usize, j: usize) -> bool
 
 // Memory past the words is 0, and there are no more words than it has.
 pub(crate) fn memory_ok(memory: &Memory, words: usize) -> bool
-    ensures { λ r. ⌜ r ≡ memoryOk (now (memory .entry)) words ⌝ }
+    ensures { λ r. ⌜ r ≡ memoryOk (before memory) words ⌝ }
 {
     let mut j: usize = words;
     while j < 256 {

@@ -10,6 +10,7 @@ use entry::numbers::DIRTY;
 use machine::Memory;
 ghost use mathlib.Core.Path.{_≡_};
 ghost use Rattle.machine.specs.SoundTest.{isClean, isOwned, isOnly, copyOk};
+ghost use Rattle.machine.specs.Lent.{before};
 
 pub(crate) fn copy_ok(
     memory: &Memory,
@@ -20,7 +21,7 @@ pub(crate) fn copy_ok(
     e: Entry,
     j: usize,
 ) -> bool
-    ensures { λ r. ⌜ r ≡ copyOk (now (memory .entry)) (now (marks .entry)) (now (owners .entry)) words kind e j ⌝ }
+    ensures { λ r. ⌜ r ≡ copyOk (before memory) (before marks) (before owners) words kind e j ⌝ }
 {
     let word = e.word as usize;
     if word >= words {
@@ -36,7 +37,7 @@ pub(crate) fn copy_ok(
 }
 
 fn is_clean(memory: &Memory, e: Entry) -> bool
-    ensures { λ r. ⌜ r ≡ isClean (now (memory .entry)) e ⌝ }
+    ensures { λ r. ⌜ r ≡ isClean (before memory) e ⌝ }
 {
     if e.state == DIRTY {
         return true;
@@ -46,7 +47,7 @@ fn is_clean(memory: &Memory, e: Entry) -> bool
 }
 
 fn is_owned(owners: &Owners, e: Entry, j: usize) -> bool
-    ensures { λ r. ⌜ r ≡ isOwned (now (owners .entry)) e j ⌝ }
+    ensures { λ r. ⌜ r ≡ isOwned (before owners) e j ⌝ }
 {
     let word = e.word as usize;
     let owner = owners[word];
@@ -57,7 +58,7 @@ fn is_owned(owners: &Owners, e: Entry, j: usize) -> bool
 }
 
 fn is_only(marks: &Marks, kind: u8, e: Entry, j: usize) -> bool
-    ensures { λ r. ⌜ r ≡ isOnly (now (marks .entry)) kind e j ⌝ }
+    ensures { λ r. ⌜ r ≡ isOnly (before marks) kind e j ⌝ }
 {
     let k = mark_key(e, j);
     marks[k] == mark_value(kind, j)

@@ -14,6 +14,7 @@ use machine::Flags;
 use machine::Memory;
 ghost use mathlib.Core.Path.{_≡_};
 ghost use Rattle.machine.specs.SoundTest.{flagsUp, isPartner, backupOk, entryOk, entriesOk};
+ghost use Rattle.machine.specs.Lent.{before};
 
 pub(crate) fn entries_ok(
     memory: &Memory,
@@ -23,7 +24,7 @@ pub(crate) fn entries_ok(
     d: Dims,
     entries: &Copies,
 ) -> bool
-    ensures { λ r. ⌜ r ≡ entriesOk (now (memory .entry)) (now (marks .entry)) (now (owners .entry)) (now (flags .entry)) d (now (entries .entry)) ⌝ }
+    ensures { λ r. ⌜ r ≡ entriesOk (before memory) (before marks) (before owners) (before flags) d (before entries) ⌝ }
 {
     let mut j: usize = 0;
     while j < 512 {
@@ -45,7 +46,7 @@ fn entry_ok(
     x: u64,
     j: usize,
 ) -> bool
-    ensures { λ r. ⌜ r ≡ entryOk (now (memory .entry)) (now (marks .entry)) (now (owners .entry)) (now (entries .entry)) (now (flags .entry)) d x j ⌝ }
+    ensures { λ r. ⌜ r ≡ entryOk (before memory) (before marks) (before owners) (before entries) (before flags) d x j ⌝ }
 {
     if x == 0 {
         return true;
@@ -76,7 +77,7 @@ fn entry_ok(
 }
 
 fn flags_up(flags: &Flags, e: Entry, j: usize) -> bool
-    ensures { λ r. ⌜ r ≡ flagsUp (now (flags .entry)) e j ⌝ }
+    ensures { λ r. ⌜ r ≡ flagsUp (before flags) e j ⌝ }
 {
     if e.tag != TENTATIVE {
         return true;
@@ -90,7 +91,7 @@ fn flags_up(flags: &Flags, e: Entry, j: usize) -> bool
 }
 
 fn backup_ok(marks: &Marks, entries: &Copies, e: Entry, j: usize) -> bool
-    ensures { λ r. ⌜ r ≡ backupOk (now (marks .entry)) (now (entries .entry)) e j ⌝ }
+    ensures { λ r. ⌜ r ≡ backupOk (before marks) (before entries) e j ⌝ }
 {
     if e.tag != BACKUP {
         return true;

@@ -26,11 +26,11 @@ use machine::Dims;
 use machine::Flags;
 use machine::Memory;
 ghost use mathlib.Core.Path.{_≡_};
-ghost use Rattle.machine.specs.State.{caches};
 ghost use Rattle.machine.specs.SoundTest.{copiesOk, soundOf};
+ghost use Rattle.machine.specs.Lent.{lent};
 
 pub fn sound(memory: &Memory, lines: &Copies, entries: &Copies, flags: &Flags, d: Dims) -> bool
-    ensures { λ r. ⌜ r ≡ soundOf d (caches (now (memory .entry)) (now (lines .entry)) (now (entries .entry)) (now (flags .entry))) ⌝ }
+    ensures { λ r. ⌜ r ≡ soundOf d (lent memory lines entries flags) ⌝ }
 {
     if !lengths_ok(memory, lines, entries, flags) {
         return false;
@@ -48,7 +48,7 @@ pub fn sound(memory: &Memory, lines: &Copies, entries: &Copies, flags: &Flags, d
 }
 
 fn copies_ok(memory: &Memory, lines: &Copies, entries: &Copies, flags: &Flags, d: Dims) -> bool
-    ensures { λ r. ⌜ r ≡ copiesOk d (caches (now (memory .entry)) (now (lines .entry)) (now (entries .entry)) (now (flags .entry))) ⌝ }
+    ensures { λ r. ⌜ r ≡ copiesOk d (lent memory lines entries flags) ⌝ }
 {
     let mut marks: Marks = [0; 4096];
     mark_all(&mut marks, OF_LINES, lines);

@@ -11,6 +11,7 @@ use machine::Dims;
 use machine::Memory;
 ghost use mathlib.Core.Path.{_≡_};
 ghost use Rattle.machine.specs.SoundTest.{lineOk, linesOk};
+ghost use Rattle.machine.specs.Lent.{before};
 
 pub(crate) fn lines_ok(
     memory: &Memory,
@@ -19,7 +20,7 @@ pub(crate) fn lines_ok(
     d: Dims,
     lines: &Copies,
 ) -> bool
-    ensures { λ r. ⌜ r ≡ linesOk (now (memory .entry)) (now (marks .entry)) (now (owners .entry)) d (now (lines .entry)) ⌝ }
+    ensures { λ r. ⌜ r ≡ linesOk (before memory) (before marks) (before owners) d (before lines) ⌝ }
 {
     let mut j: usize = 0;
     while j < 512 {
@@ -32,7 +33,7 @@ pub(crate) fn lines_ok(
 }
 
 fn line_ok(memory: &Memory, marks: &Marks, owners: &Owners, d: Dims, x: u64, j: usize) -> bool
-    ensures { λ r. ⌜ r ≡ lineOk (now (memory .entry)) (now (marks .entry)) (now (owners .entry)) d x j ⌝ }
+    ensures { λ r. ⌜ r ≡ lineOk (before memory) (before marks) (before owners) d x j ⌝ }
 {
     if x == 0 {
         return true;

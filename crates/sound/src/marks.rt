@@ -7,6 +7,7 @@ use machine::Copies;
 ghost use mathlib.Core.Path.{_≡_};
 ghost use Prim.Native.Nat.{_<_};
 ghost use Rattle.machine.specs.SoundTest.{markKey, markValue, markOne, markAll};
+ghost use Rattle.machine.specs.Lent.{before, after};
 
 pub type Marks = [u16; 4096];
 
@@ -33,7 +34,7 @@ pub(crate) fn mark_value(kind: u8, j: usize) -> u16
 }
 
 pub(crate) fn mark_all(marks: &mut Marks, kind: u8, copies: &Copies)
-    ensures { λ r. ⌜ now (marks .exit) ≡ markAll kind (now (copies .entry)) (now (marks .entry)) ⌝ }
+    ensures { λ r. ⌜ after marks ≡ markAll kind (before copies) (before marks) ⌝ }
 {
     let mut j: usize = 0;
     while j < 512 {
@@ -43,7 +44,7 @@ pub(crate) fn mark_all(marks: &mut Marks, kind: u8, copies: &Copies)
 }
 
 fn mark_one(marks: &mut Marks, kind: u8, x: u64, j: usize)
-    ensures { λ r. ⌜ now (marks .exit) ≡ markOne kind x j (now (marks .entry)) ⌝ }
+    ensures { λ r. ⌜ after marks ≡ markOne kind x j (before marks) ⌝ }
 {
     if x == 0 {
         return;

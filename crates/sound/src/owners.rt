@@ -6,6 +6,7 @@ use entry::numbers::RESERVED;
 use machine::Copies;
 ghost use mathlib.Core.Path.{_≡_};
 ghost use Rattle.machine.specs.SoundTest.{ownerOf, ownOne, ownAll};
+ghost use Rattle.machine.specs.Lent.{before, after};
 
 pub type Owners = [u8; 256];
 
@@ -17,7 +18,7 @@ pub(crate) fn owner_of(j: usize) -> u8
 }
 
 pub(crate) fn own_all(owners: &mut Owners, copies: &Copies)
-    ensures { λ r. ⌜ now (owners .exit) ≡ ownAll (now (copies .entry)) (now (owners .entry)) ⌝ }
+    ensures { λ r. ⌜ after owners ≡ ownAll (before copies) (before owners) ⌝ }
 {
     let mut j: usize = 0;
     while j < 512 {
@@ -27,7 +28,7 @@ pub(crate) fn own_all(owners: &mut Owners, copies: &Copies)
 }
 
 fn own_one(owners: &mut Owners, x: u64, j: usize)
-    ensures { λ r. ⌜ now (owners .exit) ≡ ownOne x j (now (owners .entry)) ⌝ }
+    ensures { λ r. ⌜ after owners ≡ ownOne x j (before owners) ⌝ }
 {
     let e = Entry::unpack(x);
     if e.state < RESERVED {

@@ -5,8 +5,8 @@ use contract.Lifetimes.{Lfts}
 use borrow.Fn.World.{ArgsD, ResD}
 use borrow.Fn.Kinds.{endedOf}
 use denote.Triple.Clauses.{AtExit}
-use denote.Ref.{now}
-use Rattle.machine.specs.State.{caches, outcome}
+use Rattle.machine.specs.State.{outcome}
+use Rattle.machine.specs.Lent.{seen}
 use Rattle.steps.proofs.step_refusal as step-refusal
 use Rattle.steps.proofs.step_refusal.Kinds as step-refusal-kinds
 use Rattle.steps.proofs.step_refusal.Reads as step-refusal-reads
@@ -22,6 +22,5 @@ step-refusal-unique κs a r r' s s' p q = p ∙ sym q
 
 pub take-step-unique : (κs : Lfts 4) (a : ArgsD take-step.signature κs) (r r' : ResD take-step.signature κs)
     (s s' : AtExit (endedOf 4 take-step-kinds.ps take-step-kinds.r) κs) → take-step-reads.Post κs a r s → take-step-reads.Post κs a r' s' →
-    outcome r (caches (now (s .0)) (now (s .1 .0)) (now (s .1 .1 .0)) (now (s .1 .1 .1 .0))) ≡
-    outcome r' (caches (now (s' .0)) (now (s' .1 .0)) (now (s' .1 .1 .0)) (now (s' .1 .1 .1 .0)))
+    outcome r (seen s) ≡ outcome r' (seen s')
 take-step-unique κs a r r' s s' p q = p ∙ sym q

@@ -7,12 +7,11 @@ use machine::Copies;
 use machine::Dims;
 use machine::Flags;
 ghost use mathlib.Core.Path.{_≡_};
-ghost use mathlib.Core.List.{List};
-ghost use Prim.Native.Nat.{ℕ};
 ghost use Rattle.entry.specs.Answer.{answered, noCycles, refusedBy};
-ghost use Rattle.machine.specs.State.{caches, outcome};
+ghost use Rattle.machine.specs.State.{outcome};
 ghost use Rattle.machine.specs.Refusals.{noSuchStep};
 ghost use Rattle.machine.specs.Ends.{commit, abort, validate, interrupt};
+ghost use Rattle.machine.specs.Lent.{onEntriesFlags};
 
 fn told(answer: Answer) -> Answered
     ensures { λ r. ⌜ r ≡ answered answer noCycles ⌝ }
@@ -38,7 +37,7 @@ pub(crate) fn no_such_step() -> Answered
 }
 
 pub(crate) fn commit(entries: &mut Copies, flags: &mut Flags, d: Dims, p: usize) -> Answered
-    ensures { λ r. ⌜ ((m l : List ℕ) → outcome r (caches m l (now (entries .exit)) (now (flags .exit))) ≡ commit d p (caches m l (now (entries .entry)) (now (flags .entry)))) ⌝ }
+    ensures { λ r. ⌜ onEntriesFlags (outcome r) (commit d p) entries flags ⌝ }
 {
     let active = p % 8;
     let status = 8 + p % 8;
@@ -54,7 +53,7 @@ pub(crate) fn commit(entries: &mut Copies, flags: &mut Flags, d: Dims, p: usize)
 }
 
 pub(crate) fn abort(entries: &mut Copies, flags: &mut Flags, d: Dims, p: usize) -> Answered
-    ensures { λ r. ⌜ ((m l : List ℕ) → outcome r (caches m l (now (entries .exit)) (now (flags .exit))) ≡ abort d p (caches m l (now (entries .entry)) (now (flags .entry)))) ⌝ }
+    ensures { λ r. ⌜ onEntriesFlags (outcome r) (abort d p) entries flags ⌝ }
 {
     caches::rollback(entries, flags, p, d.entries);
     let active = p % 8;
@@ -65,7 +64,7 @@ pub(crate) fn abort(entries: &mut Copies, flags: &mut Flags, d: Dims, p: usize) 
 }
 
 pub(crate) fn validate(entries: &mut Copies, flags: &mut Flags, p: usize) -> Answered
-    ensures { λ r. ⌜ ((m l : List ℕ) → outcome r (caches m l (now (entries .exit)) (now (flags .exit))) ≡ validate p (caches m l (now (entries .entry)) (now (flags .entry)))) ⌝ }
+    ensures { λ r. ⌜ onEntriesFlags (outcome r) (validate p) entries flags ⌝ }
 {
     let active = p % 8;
     let status = 8 + p % 8;
@@ -78,7 +77,7 @@ pub(crate) fn validate(entries: &mut Copies, flags: &mut Flags, p: usize) -> Ans
 }
 
 pub(crate) fn interrupt(entries: &mut Copies, flags: &mut Flags, d: Dims, p: usize) -> Answered
-    ensures { λ r. ⌜ ((m l : List ℕ) → outcome r (caches m l (now (entries .exit)) (now (flags .exit))) ≡ interrupt d p (caches m l (now (entries .entry)) (now (flags .entry)))) ⌝ }
+    ensures { λ r. ⌜ onEntriesFlags (outcome r) (interrupt d p) entries flags ⌝ }
 {
     caches::rollback(entries, flags, p, d.entries);
     told(Answer::Done)

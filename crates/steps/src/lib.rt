@@ -17,8 +17,9 @@ use machine::Dims;
 use machine::Flags;
 use machine::Memory;
 ghost use mathlib.Core.Path.{_≡_};
-ghost use Rattle.machine.specs.State.{caches, outcome};
+ghost use Rattle.machine.specs.State.{outcome};
 ghost use Rattle.machine.specs.Step.{stepRefusal, takeStep};
+ghost use Rattle.machine.specs.Lent.{lent, returned};
 
 // 0 where the step is taken, else the refusal's number.
 pub fn step_refusal(d: Dims, op: u8, p: usize, word: u32) -> u8
@@ -52,7 +53,7 @@ pub fn take_step(
     word: u8,
     v: u32,
 ) -> Answered
-    ensures { λ r. ⌜ outcome r (caches (now (memory .exit)) (now (lines .exit)) (now (entries .exit)) (now (flags .exit))) ≡ takeStep d op p word v (caches (now (memory .entry)) (now (lines .entry)) (now (entries .entry)) (now (flags .entry))) ⌝ }
+    ensures { λ r. ⌜ outcome r (returned memory lines entries flags) ≡ takeStep d op p word v (lent memory lines entries flags) ⌝ }
 {
     // One call for the three transactional accesses: the compiler writes a function out where it has one caller.
     let access = match op {

@@ -27,6 +27,7 @@ ghost use Rattle.entry.specs.Numbers.{VALID, RESERVED, DIRTY, LT, T-RFO};
 ghost use Rattle.entry.specs.Answer.{answered, asked, quiet};
 ghost use Rattle.machine.specs.State.{caches, outcome, counted};
 ghost use Rattle.machine.specs.Transact.{dropLine, finish, requestOf, hit, openNormal, clearBackup, fillBackup, fill, request, missAt, miss, seek, transact};
+ghost use Rattle.machine.specs.Lent.{before, after, lent, returned};
 
 fn quiet_counts(w: u32) -> Counts
     ensures { λ r. ⌜ r ≡ quiet w ⌝ }
@@ -114,7 +115,7 @@ fn aborted(c: Counts) -> Answered
 }
 
 fn drop_line(memory: &mut Memory, lines: &mut Copies, d: Dims, p: usize, word: u8) -> u8
-    ensures { λ r. ⌜ ((e f : List ℕ) → counted r (caches (now (memory .exit)) (now (lines .exit)) e f) ≡ dropLine d p word (caches (now (memory .entry)) (now (lines .entry)) e f)) ⌝ }
+    ensures { λ r. ⌜ ((e f : List ℕ) → counted r (caches (after memory) (after lines) e f) ≡ dropLine d p word (caches (before memory) (before lines) e f)) ⌝ }
 {
     let i = caches::home(d, word);
     let j = p % 8 * 64 + i % 64;
@@ -126,7 +127,7 @@ fn drop_line(memory: &mut Memory, lines: &mut Copies, d: Dims, p: usize, word: u
 }
 
 fn finish(entries: &mut Copies, op: u8, p: usize, i: usize, v: u32, c: Counts) -> Answered
-    ensures { λ r. ⌜ ((m l f : List ℕ) → outcome r (caches m l (now (entries .exit)) f) ≡ finish op p i v c (caches m l (now (entries .entry)) f)) ⌝ }
+    ensures { λ r. ⌜ ((m l f : List ℕ) → outcome r (caches m l (after entries) f) ≡ finish op p i v c (caches m l (before entries) f)) ⌝ }
 {
     let j = p % 8 * 64 + i % 64;
     let e = Entry::unpack(entries[j]);
@@ -158,7 +159,7 @@ fn hit(
     w1: u8,
     w2: u8,
 ) -> Answered
-    ensures { λ r. ⌜ outcome r (caches (now (memory .exit)) (now (lines .exit)) (now (entries .exit)) (now (flags .exit))) ≡ hit d op p i word v w1 w2 (caches (now (memory .entry)) (now (lines .entry)) (now (entries .entry)) (now (flags .entry))) ⌝ }
+    ensures { λ r. ⌜ outcome r (returned memory lines entries flags) ≡ hit d op p i word v w1 w2 (lent memory lines entries flags) ⌝ }
 {
     let w = (w1 as u32) + (w2 as u32);
     if op == LT {
@@ -179,7 +180,7 @@ fn hit(
 }
 
 fn open_normal(memory: &mut Memory, entries: &mut Copies, d: Dims, p: usize, i: usize) -> u8
-    ensures { λ r. ⌜ ((l f : List ℕ) → counted r (caches (now (memory .exit)) l (now (entries .exit)) f) ≡ openNormal d p i (caches (now (memory .entry)) l (now (entries .entry)) f)) ⌝ }
+    ensures { λ r. ⌜ ((l f : List ℕ) → counted r (caches (after memory) l (after entries) f) ≡ openNormal d p i (caches (before memory) l (before entries) f)) ⌝ }
 {
     let j = p % 8 * 64 + i % 64;
     let e = Entry::unpack(entries[j]);
@@ -200,7 +201,7 @@ fn open_normal(memory: &mut Memory, entries: &mut Copies, d: Dims, p: usize, i: 
 }
 
 fn clear_backup(memory: &mut Memory, entries: &mut Copies, d: Dims, p: usize, b: usize) -> u8
-    ensures { λ r. ⌜ ((l f : List ℕ) → counted r (caches (now (memory .exit)) l (now (entries .exit)) f) ≡ clearBackup d p b (caches (now (memory .entry)) l (now (entries .entry)) f)) ⌝ }
+    ensures { λ r. ⌜ ((l f : List ℕ) → counted r (caches (after memory) l (after entries) f) ≡ clearBackup d p b (caches (before memory) l (before entries) f)) ⌝ }
 {
     if b < d.entries {
         return caches::clear(memory, entries, p, b);
@@ -209,7 +210,7 @@ fn clear_backup(memory: &mut Memory, entries: &mut Copies, d: Dims, p: usize, b:
 }
 
 fn fill_backup(entries: &mut Copies, d: Dims, p: usize, b: usize, e: Entry)
-    ensures { λ r. ⌜ now (entries .exit) ≡ fillBackup d p b e (now (entries .entry)) ⌝ }
+    ensures { λ r. ⌜ after entries ≡ fillBackup d p b e (before entries) ⌝ }
 {
     if b < d.entries {
         let j = p % 8 * 64 + b % 64;
@@ -229,7 +230,7 @@ fn fill(
     v: u32,
     w: u32,
 ) -> Answered
-    ensures { λ r. ⌜ ((m l f : List ℕ) → outcome r (caches m l (now (entries .exit)) f) ≡ fill d op p i b word supplied v w (caches m l (now (entries .entry)) f)) ⌝ }
+    ensures { λ r. ⌜ ((m l f : List ℕ) → outcome r (caches m l (after entries) f) ≡ fill d op p i b word supplied v w (caches m l (before entries) f)) ⌝ }
 {
     let state = filled_state(op);
     let tentative = Entry {
@@ -264,7 +265,7 @@ fn request(
     v: u32,
     w: u32,
 ) -> Answered
-    ensures { λ r. ⌜ outcome r (caches (now (memory .exit)) (now (lines .exit)) (now (entries .exit)) (now (flags .exit))) ≡ request d op p i b word v w (caches (now (memory .entry)) (now (lines .entry)) (now (entries .entry)) (now (flags .entry))) ⌝ }
+    ensures { λ r. ⌜ outcome r (returned memory lines entries flags) ≡ request d op p i b word v w (lent memory lines entries flags) ⌝ }
 {
     let cycle = request_of(op);
     if snoop::request(memory, lines, entries, d, p, word, cycle) {
@@ -289,7 +290,7 @@ fn miss_at(
     v: u32,
     w1: u8,
 ) -> Answered
-    ensures { λ r. ⌜ outcome r (caches (now (memory .exit)) (now (lines .exit)) (now (entries .exit)) (now (flags .exit))) ≡ missAt d op p i word v w1 (caches (now (memory .entry)) (now (lines .entry)) (now (entries .entry)) (now (flags .entry))) ⌝ }
+    ensures { λ r. ⌜ outcome r (returned memory lines entries flags) ≡ missAt d op p i word v w1 (lent memory lines entries flags) ⌝ }
 {
     let w2 = caches::clear(memory, entries, p, i);
     let b = caches::free_slot(entries, p, d.entries, i);
@@ -310,7 +311,7 @@ fn miss(
     v: u32,
     w1: u8,
 ) -> Answered
-    ensures { λ r. ⌜ outcome r (caches (now (memory .exit)) (now (lines .exit)) (now (entries .exit)) (now (flags .exit))) ≡ miss d op p word v w1 (caches (now (memory .entry)) (now (lines .entry)) (now (entries .entry)) (now (flags .entry))) ⌝ }
+    ensures { λ r. ⌜ outcome r (returned memory lines entries flags) ≡ miss d op p word v w1 (lent memory lines entries flags) ⌝ }
 {
     let n = d.entries;
     let i = caches::free_slot(entries, p, n, n);
@@ -333,7 +334,7 @@ fn seek(
     v: u32,
     w1: u8,
 ) -> Answered
-    ensures { λ r. ⌜ outcome r (caches (now (memory .exit)) (now (lines .exit)) (now (entries .exit)) (now (flags .exit))) ≡ seek d op p word v (counted w1 (caches (now (memory .entry)) (now (lines .entry)) (now (entries .entry)) (now (flags .entry)))) ⌝ }
+    ensures { λ r. ⌜ outcome r (returned memory lines entries flags) ≡ seek d op p word v (counted w1 (lent memory lines entries flags)) ⌝ }
 {
     let own = caches::own_entry(entries, p, d.entries, word);
     let i = own.at;
@@ -358,7 +359,7 @@ pub fn transact(
     word: u8,
     v: u32,
 ) -> Answered
-    ensures { λ r. ⌜ outcome r (caches (now (memory .exit)) (now (lines .exit)) (now (entries .exit)) (now (flags .exit))) ≡ transact d op p word v (caches (now (memory .entry)) (now (lines .entry)) (now (entries .entry)) (now (flags .entry))) ⌝ }
+    ensures { λ r. ⌜ outcome r (returned memory lines entries flags) ≡ transact d op p word v (lent memory lines entries flags) ⌝ }
 {
     let active = p % 8;
     flags[active] = 1;
