@@ -11,8 +11,8 @@ use lib.Dec.{eqb, ltb}
 use Rattle.laws.specs.Choice.{pick, both, either, both-left, both-right}
 use Rattle.laws.specs.Search.{firstFrom, first-has, first-not, none-of}
 use Rattle.entry.specs.Numbers.{NORMAL, TENTATIVE}
-use Rattle.machine.specs.State.{copyAt}
-use Rattle.machine.specs.Own.{hasEntry, hasLive, findEntry, liveEntry}
+use Rattle.rules.specs.State.{copyAt}
+use Rattle.rules.specs.Own.{hasEntry, hasLive, findEntry, liveEntry}
 use Rattle.caches.specs.declared.Own.{Own}
 use Rattle.caches.specs.Own.{own, ownEntry}
 use Rattle.caches.proofs.Round.{first-at}

@@ -11,8 +11,8 @@ use lib.ListN.{getD}
 use Rattle.entry.specs.Packing.{unpack}
 use Rattle.laws.specs.Choice.{both, either, both-not}
 use Rattle.entry.specs.Numbers.{INVALID, NORMAL, TENTATIVE}
-use Rattle.machine.specs.State.{copyAt}
-use Rattle.machine.specs.Own.{hasEntry, hasLive}
+use Rattle.rules.specs.State.{copyAt}
+use Rattle.rules.specs.Own.{hasEntry, hasLive}
 use Rattle.caches.specs.Own.{used, usedFor}
 
 abbrev pub ofWord : List ℕ → ℕ → ℕ → Bool

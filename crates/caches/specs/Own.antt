@@ -6,7 +6,7 @@ use lib.Dec.{eqb, ltb}
 use Rattle.laws.specs.Choice.{pick, both}
 use Rattle.entry.specs.declared.Entry.{Entry}
 use Rattle.entry.specs.Numbers.{INVALID, NORMAL, TENTATIVE}
-use Rattle.machine.specs.Own.{findEntry}
+use Rattle.rules.specs.Own.{findEntry}
 use Rattle.caches.specs.declared.Own.{Own}
 
 abbrev pub used : Entry → Bool

@@ -8,22 +8,22 @@ use entry::numbers::DIRTY;
 use entry::numbers::INVALID;
 use entry::numbers::NORMAL;
 use entry::numbers::TENTATIVE;
-use machine::Copies;
-use machine::Dims;
-use machine::Flags;
-use machine::Memory;
+use rules::Copies;
+use rules::Dims;
+use rules::Flags;
+use rules::Memory;
 ghost use mathlib.Core.Path.{_≡_};
 ghost use mathlib.Core.Logic.{_≢_};
 ghost use mathlib.Core.Bool.{false};
 ghost use Prim.Native.Nat.{ℕ, _<_};
 ghost use Rattle.entry.specs.Numbers.{INVALID, NORMAL, TENTATIVE};
 ghost use Rattle.entry.specs.Packing.{noEntry};
-ghost use Rattle.machine.specs.State.{copyAt, withCopy};
-ghost use Rattle.machine.specs.Own.{home, holds, hasEntry, findEntry, isFree, lowest, freeSlot, liveEntry};
-ghost use Rattle.machine.specs.Rollback.{rolledEntries, statusDown, committedEntries};
-ghost use Rattle.machine.specs.Bus.{writtenBack, writes};
+ghost use Rattle.rules.specs.State.{copyAt, withCopy};
+ghost use Rattle.rules.specs.Own.{home, holds, hasEntry, findEntry, isFree, lowest, freeSlot, liveEntry};
+ghost use Rattle.rules.specs.Rollback.{rolledEntries, statusDown, committedEntries};
+ghost use Rattle.rules.specs.Snoop.{writtenBack, writes};
 ghost use Rattle.caches.specs.Own.{ownEntry};
-ghost use Rattle.machine.specs.Lent.{before, after};
+ghost use Rattle.rules.specs.Lent.{before, after};
 
 // Whether it is a tentative entry; its place is the number of entries where there is none.
 pub struct Own {

@@ -1,7 +1,7 @@
 // Places of a lent array that a search passes over, four of them, or eight, in one turn of a loop.
 
 use entry::numbers::INVALID;
-use machine::Copies;
+use rules::Copies;
 ghost use mathlib.Core.Path.{_≡_};
 ghost use mathlib.Core.Bool.{true, false};
 ghost use Prim.Native.Nat.{ℕ, _+_, _<_, _≤_};
@@ -10,9 +10,9 @@ ghost use lib.ListN.{getD};
 ghost use Rattle.laws.specs.Choice.{pick};
 ghost use Rattle.entry.specs.Numbers.{INVALID};
 ghost use Rattle.entry.specs.Packing.{unpack};
-ghost use Rattle.machine.specs.State.{copyAt};
+ghost use Rattle.rules.specs.State.{copyAt};
 ghost use Rattle.caches.specs.Own.{used, usedFor};
-ghost use Rattle.machine.specs.Lent.{before};
+ghost use Rattle.rules.specs.Lent.{before};
 
 // Places go round after 64, so that a search need not go further.
 pub(crate) fn reach(n: usize) -> usize

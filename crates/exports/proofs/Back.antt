@@ -2,13 +2,13 @@
 use mathlib.Core.Path.{_≡_, refl, sym, _∙_, ap}
 use mathlib.Core.Bool.{Bool, true, false}
 use Rattle.laws.specs.Choice.{pick}
-use Rattle.machine.specs.declared.Dims.{Dims}
-use Rattle.machine.specs.declared.Machine.{Machine}
-use Rattle.machine.specs.declared.Ran.{Ran}
-use Rattle.machine.specs.State.{Caches, cachesOf, machineOf}
-use Rattle.machine.specs.Refusals.{notSound, badColumns}
-use Rattle.machine.specs.SoundTest.{soundOf}
-use Rattle.machine.specs.Run.{Steps, Columns, Left, left, columnsOk, runSound, runOf}
+use Rattle.rules.specs.declared.Dims.{Dims}
+use Rattle.rules.specs.declared.Machine.{Machine}
+use Rattle.rules.specs.declared.Ran.{Ran}
+use Rattle.rules.specs.State.{Caches, cachesOf, machineOf}
+use Rattle.rules.specs.Refusals.{notSound, badColumns}
+use Rattle.rules.specs.SoundTest.{soundOf}
+use Rattle.rules.specs.Run.{Steps, Columns, Left, left, columnsOk, runSound, runOf}
 use Rattle.runs.specs.Halting.{leftBy}
 use Rattle.exports.specs.Lent.{leftIn, runIn}
 

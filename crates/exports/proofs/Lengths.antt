@@ -7,13 +7,13 @@ use lib.ListN.{length}
 use borrow.Author.Tests.{eqb-true}
 use Rattle.laws.specs.Choice.{both}
 use Rattle.entry.specs.declared.answer.Answer.the-variants.{Refused}
-use Rattle.machine.specs.declared.Dims.{Dims}
-use Rattle.machine.specs.State.{Caches, machineOf}
-use Rattle.machine.specs.Refusals.{notSound}
-use Rattle.machine.specs.Sound.{Lengths}
-use Rattle.machine.specs.SoundTest.{lengthsOk, soundOf}
-use Rattle.machine.specs.Step.{settledOf}
-use Rattle.machine.specs.Run.{Steps, Columns, left, runOf}
+use Rattle.rules.specs.declared.Dims.{Dims}
+use Rattle.rules.specs.State.{Caches, machineOf}
+use Rattle.rules.specs.Refusals.{notSound}
+use Rattle.rules.specs.Sound.{Lengths}
+use Rattle.rules.specs.SoundTest.{lengthsOk, soundOf}
+use Rattle.rules.specs.Step.{settledOf}
+use Rattle.rules.specs.Run.{Steps, Columns, left, runOf}
 
 pub long : (s : Caches) → lengthsOk s ≡ true → Lengths s
 long s h =

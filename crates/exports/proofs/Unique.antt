@@ -6,9 +6,9 @@ use borrow.Fn.World.{ArgsD, ResD}
 use borrow.Fn.Kinds.{endedOf}
 use denote.Triple.Clauses.{AtExit}
 use denote.Ref.{now}
-use Rattle.machine.specs.State.{caches}
-use Rattle.machine.specs.Making.{dims}
-use Rattle.machine.specs.Run.{columns}
+use Rattle.rules.specs.State.{caches}
+use Rattle.rules.specs.Making.{dims}
+use Rattle.rules.specs.Run.{columns}
 use Rattle.exports.specs.Lent.{handed, told, leftIn}
 use Rattle.exports.proofs.stirnfeld_make as make
 use Rattle.exports.proofs.stirnfeld_make.Kinds as make-kinds

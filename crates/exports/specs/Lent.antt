@@ -5,13 +5,13 @@ use lib.Dec.{eqb}
 use Rattle.laws.specs.Choice.{pick}
 use Rattle.entry.specs.declared.answer.Answer.{Answer}
 use Rattle.entry.specs.Answer.{answerValue, refusalNumber}
-use Rattle.machine.specs.declared.Dims.{Dims}
-use Rattle.machine.specs.State.{Caches, cachesOf, machineOf}
-use Rattle.machine.specs.Refusals.{accepted, notSound}
-use Rattle.machine.specs.SoundTest.{lengthsOk}
-use Rattle.machine.specs.Making.{makeOf}
-use Rattle.machine.specs.Step.{settledOf}
-use Rattle.machine.specs.Run.{Steps, Columns, Left, left, runOf}
+use Rattle.rules.specs.declared.Dims.{Dims}
+use Rattle.rules.specs.State.{Caches, cachesOf, machineOf}
+use Rattle.rules.specs.Refusals.{accepted, notSound}
+use Rattle.rules.specs.SoundTest.{lengthsOk}
+use Rattle.rules.specs.Making.{makeOf}
+use Rattle.rules.specs.Step.{settledOf}
+use Rattle.rules.specs.Run.{Steps, Columns, Left, left, runOf}
 
 -- the number that is answered, and what the four arrays then hold
 pub record Handed : Type 0 where

@@ -1,11 +1,11 @@
 // Whole arrays copied out of and into what is lent. A slice of another length is copied by no one: the lengths are tested first.
 
-use machine::Copies;
-use machine::Flags;
-use machine::Memory;
+use rules::Copies;
+use rules::Flags;
+use rules::Memory;
 ghost use mathlib.Core.Path.{_≡_};
 ghost use lib.ListN.{length};
-ghost use Rattle.machine.specs.Lent.{before, after};
+ghost use Rattle.rules.specs.Lent.{before, after};
 
 pub(crate) fn memory_of(lent: &[u32]) -> Memory
     requires { ⌜ length (now lent) ≡ 256 ⌝ }

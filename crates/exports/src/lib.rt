@@ -7,11 +7,11 @@ mod state;
 use crate::state::lengths_ok;
 use crate::state::machine_of;
 use crate::state::put_machine;
-use machine::Dims;
+use rules::Dims;
 ghost use mathlib.Core.Path.{_≡_};
-ghost use Rattle.machine.specs.Making.{dims};
+ghost use Rattle.rules.specs.Making.{dims};
 ghost use Rattle.exports.specs.Lent.{handed, makeIn, told, settledTold, leftIn, runIn};
-ghost use Rattle.machine.specs.Lent.{before, after, lent, returned, lentSteps, columnsOf};
+ghost use Rattle.rules.specs.Lent.{before, after, lent, returned, lentSteps, columnsOf};
 
 // The fresh state goes into the four arrays; initial is the memory that the caller gives.
 #[no_mangle]
@@ -28,7 +28,7 @@ pub extern "C" fn stirnfeld_make(
 ) -> u8
     ensures { λ r. ⌜ handed r (returned memory regular transactional flags) ≡ makeIn (dims processors words lines entries) (before initial) (lent memory regular transactional flags) ⌝ }
 {
-    let made = bus::make(processors, words, lines, entries, initial);
+    let made = machine::make(processors, words, lines, entries, initial);
     if made.refusal != 0 {
         return made.refusal;
     }
@@ -66,7 +66,7 @@ pub extern "C" fn stirnfeld_settled(
         entries: entries,
     };
     let m = machine_of(d, memory, regular, transactional, flags);
-    let answer = bus::settled(m, word);
+    let answer = machine::settled(m, word);
     *value = answer.value();
     answer.refusal()
 }

@@ -1,13 +1,13 @@
 // A machine whose state is lent: taken from the four arrays, and put back into them.
 
 use crate::copying;
-use machine::Dims;
-use machine::Machine;
+use rules::Dims;
+use rules::Machine;
 ghost use mathlib.Core.Path.{_≡_};
-ghost use Rattle.machine.specs.State.{caches, cachesOf, machineOf};
-ghost use Rattle.machine.specs.Sound.{Lengths};
-ghost use Rattle.machine.specs.SoundTest.{lengthsOk};
-ghost use Rattle.machine.specs.Lent.{lent, returned};
+ghost use Rattle.rules.specs.State.{caches, cachesOf, machineOf};
+ghost use Rattle.rules.specs.Sound.{Lengths};
+ghost use Rattle.rules.specs.SoundTest.{lengthsOk};
+ghost use Rattle.rules.specs.Lent.{lent, returned};
 
 // Arrays of other lengths are no machine's state.
 pub(crate) fn lengths_ok(

@@ -7,11 +7,11 @@ use native.Mathlib.Omega.{arith}
 use borrow.Author.Tests.{ne-eqb, leb-true, leb-false}
 use lib.Dec.{leb}
 use lib.ListN.{length, take, replicate, length-replicate}
-use Rattle.machine.specs.declared.Dims.{Dims}
-use Rattle.machine.specs.declared.Made.{Made}
-use Rattle.machine.specs.Refusals.{accepted}
-use Rattle.machine.specs.Making.{dimsRefusal, makeRefusal, makeOf}
-use Rattle.bus.proofs.Words.{dims-fit}
+use Rattle.rules.specs.declared.Dims.{Dims}
+use Rattle.rules.specs.declared.Made.{Made}
+use Rattle.rules.specs.Refusals.{accepted}
+use Rattle.rules.specs.Making.{dimsRefusal, makeRefusal, makeOf}
+use Rattle.machine.proofs.Words.{dims-fit}
 use Rattle.listing.specs.declared.places.Place.{Place}
 use Rattle.listing.specs.Place.{beginAt}
 use Rattle.listing.specs.Replay.{replaying, beginOf}

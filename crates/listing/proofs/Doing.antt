@@ -11,8 +11,8 @@ use lib.Seq.{sets}
 use Rattle.laws.specs.Choice.{both}
 use Rattle.entry.specs.declared.answer.Answered.{Answered}
 use Rattle.entry.specs.Answer.{refusedBy}
-use Rattle.machine.specs.declared.Dims.{Dims}
-use Rattle.machine.specs.State.{Caches, outcome}
+use Rattle.rules.specs.declared.Dims.{Dims}
+use Rattle.rules.specs.State.{Caches, outcome}
 use Rattle.text.specs.Writing.{Written, written, putOf}
 use Rattle.text.proofs.Puts.{put-fit}
 use Rattle.listing.specs.declared.places.Place.{Place}

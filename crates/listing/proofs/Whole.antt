@@ -6,7 +6,7 @@ use mathlib.Core.List.{List, [], _++_}
 use Prim.Native.Nat.{ℕ, zero, suc, _≤_, _<_}
 use native.Mathlib.Omega.{arith}
 use lib.ListN.{length, take, drop}
-use Rattle.machine.specs.declared.Dims.{Dims}
+use Rattle.rules.specs.declared.Dims.{Dims}
 use Rattle.listing.specs.declared.Replaying.{Replaying}
 use Rattle.listing.specs.Lines.{mostLine}
 use Rattle.listing.specs.Listing.{goesOn, lineAt, nextAt, linesLeft, fillOf, listingFrom}

@@ -7,12 +7,12 @@ use native.Mathlib.Omega.{arith}
 use lib.Dec.{ltb}
 use Rattle.laws.specs.Choice.{pick}
 use Rattle.entry.specs.Numbers.{INTERRUPT}
-use Rattle.machine.specs.declared.Dims.{Dims}
-use Rattle.machine.specs.State.{Caches}
-use Rattle.machine.specs.Refusals.{accepted, noSuchStep}
-use Rattle.machine.specs.Making.{dimsRefusal}
-use Rattle.machine.specs.Step.{stepRefusal, takeStep}
-use Rattle.bus.proofs.Words.{dims-fit, low-word}
+use Rattle.rules.specs.declared.Dims.{Dims}
+use Rattle.rules.specs.State.{Caches}
+use Rattle.rules.specs.Refusals.{accepted, noSuchStep}
+use Rattle.rules.specs.Making.{dimsRefusal}
+use Rattle.rules.specs.Step.{stepRefusal, takeStep}
+use Rattle.machine.proofs.Words.{dims-fit, low-word}
 use Rattle.text.specs.declared.records.Record.{Record}
 use Rattle.text.specs.declared.records.Record.the-variants.{Fields, Refused}
 use Rattle.text.specs.declared.records.Parsed.{Parsed}

@@ -8,16 +8,16 @@ use Rattle.laws.specs.Choice.{pick, both}
 use Rattle.laws.specs.Fold.{foldRange}
 use Rattle.laws.specs.Search.{firstFrom}
 use Rattle.laws.specs.Places.{applyFrom}
-use Rattle.machine.specs.Making.{dims, dimsRefusal, makeRefusal, fresh, makeOf}
-use Rattle.machine.specs.Own.{home, findEntry, lowest, freeSlot, liveEntry}
-use Rattle.machine.specs.Rollback.{rolledEntries, statusDown, committedEntries}
-use Rattle.machine.specs.Bus.{writtenBack, writes, snoopLine, snoopEntry, snoopOne, snoop}
-use Rattle.machine.specs.Bus.{opposes, firstOpposing, refuses, rollOne, rollOthers, plainRequest}
-use Rattle.machine.specs.Load.{loadMiss, loadOn, load}
-use Rattle.machine.specs.Store.{rollOwn, dropNormal, storeThrough, storeMiss, storeLine, store}
-use Rattle.machine.specs.Transact.{dropLine, finish, hit, openNormal, clearBackup, fillBackup, fill, request, missAt, miss, seek, transact}
-use Rattle.machine.specs.Ends.{commit, abort, validate, interrupt}
-use Rattle.machine.specs.Step.{stepRefusal, takeStep}
+use Rattle.rules.specs.Making.{dims, dimsRefusal, makeRefusal, fresh, makeOf}
+use Rattle.rules.specs.Own.{home, findEntry, lowest, freeSlot, liveEntry}
+use Rattle.rules.specs.Rollback.{rolledEntries, statusDown, committedEntries}
+use Rattle.rules.specs.Snoop.{writtenBack, writes, snoopLine, snoopEntry, snoopOne, snoop}
+use Rattle.rules.specs.Snoop.{opposes, firstOpposing, refuses, rollOne, rollOthers, plainRequest}
+use Rattle.rules.specs.Load.{loadMiss, loadOn, load}
+use Rattle.rules.specs.Store.{rollOwn, dropNormal, storeThrough, storeMiss, storeLine, store}
+use Rattle.rules.specs.Transact.{dropLine, finish, hit, openNormal, clearBackup, fillBackup, fill, request, missAt, miss, seek, transact}
+use Rattle.rules.specs.Ends.{commit, abort, validate, interrupt}
+use Rattle.rules.specs.Step.{stepRefusal, takeStep}
 use Rattle.text.specs.Quoted.{bytes}
 use Rattle.text.specs.Marks.{findOf}
 use Rattle.text.specs.Decimals.{push, fieldOf}

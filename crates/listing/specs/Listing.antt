@@ -7,8 +7,8 @@ use lib.ListN.{length}
 use lib.Seq.{sets}
 use Rattle.laws.specs.Choice.{pick}
 use Rattle.entry.specs.Answer.{refusedBy}
-use Rattle.machine.specs.declared.Dims.{Dims}
-use Rattle.machine.specs.State.{Caches}
+use Rattle.rules.specs.declared.Dims.{Dims}
+use Rattle.rules.specs.State.{Caches}
 use Rattle.listing.specs.declared.places.Place.{Place}
 use Rattle.listing.specs.Place.{HEADER, REFUSAL, RECORD, END, NOTHING, withPhase, more64, firstPhase}
 use Rattle.listing.specs.Lines.{mostLine, answerLine, endLine, headerLine}

@@ -9,10 +9,10 @@ use Rattle.entry.specs.declared.answer.Answer.the-variants.{Value, Done, Succes
 use Rattle.entry.specs.declared.answer.Answered.{Answered}
 use Rattle.entry.specs.Numbers.{INTERRUPT}
 use Rattle.entry.specs.Answer.{cyclesOf, refusedBy}
-use Rattle.machine.specs.declared.Dims.{Dims}
-use Rattle.machine.specs.State.{Caches, Outcome, outcome}
-use Rattle.machine.specs.Refusals.{accepted, noSuchStep}
-use Rattle.machine.specs.Step.{stepRefusal, takeStep}
+use Rattle.rules.specs.declared.Dims.{Dims}
+use Rattle.rules.specs.State.{Caches, Outcome, outcome}
+use Rattle.rules.specs.Refusals.{accepted, noSuchStep}
+use Rattle.rules.specs.Step.{stepRefusal, takeStep}
 use Rattle.text.specs.declared.records.Record.{Record}
 use Rattle.text.specs.declared.records.Record.the-variants as record-is
 use Rattle.text.specs.declared.records.Parsed.{Parsed}

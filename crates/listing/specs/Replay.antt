@@ -2,11 +2,11 @@
 use mathlib.Core.List.{List}
 use Prim.Native.Nat.{ℕ}
 use lib.ListN.{replicate}
-use Rattle.machine.specs.declared.Dims.{Dims}
-use Rattle.machine.specs.declared.Machine.{Machine}
-use Rattle.machine.specs.declared.Made.{Made}
-use Rattle.machine.specs.State.{cachesOf, machineOf}
-use Rattle.machine.specs.Making.{makeOf}
+use Rattle.rules.specs.declared.Dims.{Dims}
+use Rattle.rules.specs.declared.Machine.{Machine}
+use Rattle.rules.specs.declared.Made.{Made}
+use Rattle.rules.specs.State.{cachesOf, machineOf}
+use Rattle.rules.specs.Making.{makeOf}
 use Rattle.listing.specs.declared.Replaying.{Replaying}
 use Rattle.listing.specs.declared.Piece.{Piece}
 use Rattle.listing.specs.declared.places.Place.{Place}

@@ -6,12 +6,12 @@ mod places;
 mod records;
 
 use crate::places::Place;
-use machine::Machine;
+use rules::Machine;
 ghost use mathlib.Core.Path.{_≡_};
 ghost use Prim.Native.Nat.{_≤_};
-ghost use Rattle.machine.specs.Making.{dims};
+ghost use Rattle.rules.specs.Making.{dims};
 ghost use Rattle.listing.specs.Replay.{leftBy, beginOf, nextPiece};
-ghost use Rattle.machine.specs.Lent.{before, after};
+ghost use Rattle.rules.specs.Lent.{before, after};
 
 // What stands between two pieces.
 pub struct Replaying {
@@ -42,7 +42,7 @@ pub fn begin(s: &[u8], processors: usize, words: usize, lines: usize, entries: u
 {
     let memory = [0u32; 256];
     let n = lent_words(words);
-    let made = bus::make(processors, words, lines, entries, &memory[..n]);
+    let made = machine::make(processors, words, lines, entries, &memory[..n]);
     let m = made.machine;
     let place = places::begin_at(s, made.refusal);
     Replaying {

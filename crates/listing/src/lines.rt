@@ -11,7 +11,7 @@ ghost use Rattle.entry.specs.Answer.{answerName};
 ghost use Rattle.text.specs.Quoted.{bytes};
 ghost use Rattle.text.specs.Writing.{written, putOf};
 ghost use Rattle.listing.specs.Lines.{mostLine, shown, answerLine, endLine, headerLine};
-ghost use Rattle.machine.specs.Lent.{before, after};
+ghost use Rattle.rules.specs.Lent.{before, after};
 
 // No line is longer.
 pub(crate) const LINE_MOST: usize = 72;

@@ -17,19 +17,19 @@ use crate::records::answer_of;
 use crate::records::look_at;
 use crate::records::place_after;
 use entry::answer::Answered;
-use machine::Copies;
-use machine::Dims;
-use machine::Flags;
-use machine::Memory;
+use rules::Copies;
+use rules::Dims;
+use rules::Flags;
+use rules::Memory;
 ghost use mathlib.Core.Path.{_≡_};
 ghost use Prim.Native.Nat.{_+_, _≤_};
 ghost use lib.Dec.{leb};
 ghost use lib.ListN.{length};
-ghost use Rattle.machine.specs.State.{Caches};
+ghost use Rattle.rules.specs.State.{Caches};
 ghost use Rattle.listing.specs.Lines.{mostLine};
 ghost use Rattle.listing.specs.Pieces.{carried};
 ghost use Rattle.listing.specs.Listing.{going, doRecord, doOther, doLine, wrote, fillOf};
-ghost use Rattle.machine.specs.Lent.{before, after, lent, returned};
+ghost use Rattle.rules.specs.Lent.{before, after, lent, returned};
 
 // Where the replay stands, and how much of the buffer is written.
 pub struct Filled {

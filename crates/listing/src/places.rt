@@ -5,7 +5,7 @@ use text::records::record_end;
 ghost use mathlib.Core.Path.{_≡_};
 ghost use mathlib.Core.Bool.{false};
 ghost use Rattle.listing.specs.Place.{HEADER, place, withPhase, more64, past, phaseAt, firstPhase, beginAt};
-ghost use Rattle.machine.specs.Lent.{before};
+ghost use Rattle.rules.specs.Lent.{before};
 
 // What the next line is, or that none is left.
 pub(crate) const HEADER: u8 = 0;

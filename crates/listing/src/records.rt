@@ -8,18 +8,18 @@ use crate::places::phase_at;
 use entry::answer::Answer;
 use entry::answer::Answered;
 use entry::numbers::INTERRUPT;
-use machine::Copies;
-use machine::Dims;
-use machine::Flags;
-use machine::Memory;
+use rules::Copies;
+use rules::Dims;
+use rules::Flags;
+use rules::Memory;
 use text::records::Parsed;
 use text::records::Record;
 use text::records::read_record;
 use text::records::record_end;
 ghost use mathlib.Core.Path.{_≡_};
-ghost use Rattle.machine.specs.State.{outcome};
+ghost use Rattle.rules.specs.State.{outcome};
 ghost use Rattle.listing.specs.Records.{rises, fieldsRefusal, looked, lookAt, answerOf, isSuccess, phaseAfter, placeAfter, noFields};
-ghost use Rattle.machine.specs.Lent.{before, lent, returned};
+ghost use Rattle.rules.specs.Lent.{before, lent, returned};
 
 const NO_SUCH_STEP: u8 = 6;
 

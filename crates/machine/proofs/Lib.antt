@@ -1,6 +1,3 @@
-pub mod Table
-pub mod Cases
-pub mod Edges
-pub mod Worked
-pub mod Readings
-pub mod Slots
+pub mod Padding
+pub mod Words
+pub mod Unique

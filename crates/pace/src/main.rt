@@ -10,7 +10,7 @@ use crate::timing::lent_bytes;
 use crate::timing::lent_words;
 use libc::STDIN_FILENO;
 use libc::STDOUT_FILENO;
-use machine::Machine;
+use rules::Machine;
 ghost use Prim.Native.Nat.{_<_};
 
 const PROCESSORS: usize = 0;
@@ -49,7 +49,7 @@ fn size_at(head: &[u8; 24], place: usize) -> usize
 fn fresh_machine(head: &[u8; 24]) -> Machine {
     let memory = [0u32; 256];
     let words = lent_words(size_at(head, WORDS), &memory);
-    let made = bus::make(
+    let made = machine::make(
         size_at(head, PROCESSORS),
         words,
         size_at(head, LINES),

@@ -1,6 +1,6 @@
 // A sum in the manner of FNV-1a, with 64 bits to a turn.
 
-use machine::Machine;
+use rules::Machine;
 use std::num::wrapping_add_u64;
 
 pub(crate) const BASIS: u64 = 14695981039346656037;

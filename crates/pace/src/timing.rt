@@ -6,7 +6,7 @@ use crate::sum::mixed_byte;
 use crate::sum::mixed_column;
 use crate::sum::mixed_machine;
 use crate::sum::mixed_size;
-use machine::Machine;
+use rules::Machine;
 use std::num::wrapping_add_u64;
 use std::num::wrapping_sub_u64;
 ghost use Prim.Native.Nat.{_≤_};

@@ -6,7 +6,7 @@ use borrow.Fn.World.{ArgsD, ResD}
 use borrow.Fn.Kinds.{endedOf}
 use denote.Triple.Clauses.{AtExit}
 use denote.Ref.{now}
-use Rattle.machine.specs.State.{caches, outcome}
+use Rattle.rules.specs.State.{caches, outcome}
 use Rattle.plain.proofs.load as load
 use Rattle.plain.proofs.load.Kinds as load-kinds
 use Rattle.plain.proofs.load.Reads as load-reads

@@ -12,21 +12,21 @@ use entry::numbers::RESERVED;
 use entry::numbers::RFO;
 use entry::numbers::VALID;
 use entry::numbers::WRITE;
-use machine::Copies;
-use machine::Dims;
-use machine::Flags;
-use machine::Memory;
+use rules::Copies;
+use rules::Dims;
+use rules::Flags;
+use rules::Memory;
 ghost use mathlib.Core.Path.{_≡_};
 ghost use mathlib.Core.List.{List};
 ghost use Prim.Native.Nat.{ℕ, _+_};
 ghost use Rattle.entry.specs.declared.answer.Answer.the-variants.{Value, Done};
 ghost use Rattle.entry.specs.Numbers.{NORMAL, READ, RFO, WRITE};
 ghost use Rattle.entry.specs.Answer.{answered, asked, quiet, noCycles};
-ghost use Rattle.machine.specs.State.{caches, outcome, counted};
-ghost use Rattle.machine.specs.Own.{findEntry};
-ghost use Rattle.machine.specs.Load.{loadMiss, loadOn, load};
-ghost use Rattle.machine.specs.Store.{rollOwn, dropNormal, storeThrough, storeMiss, storeLine, store};
-ghost use Rattle.machine.specs.Lent.{before, after, lent, returned};
+ghost use Rattle.rules.specs.State.{caches, outcome, counted};
+ghost use Rattle.rules.specs.Own.{findEntry};
+ghost use Rattle.rules.specs.Load.{loadMiss, loadOn, load};
+ghost use Rattle.rules.specs.Store.{rollOwn, dropNormal, storeThrough, storeMiss, storeLine, store};
+ghost use Rattle.rules.specs.Lent.{before, after, lent, returned};
 
 // VALUE with no cycles.
 fn hit(v: u32) -> Answered

@@ -5,10 +5,10 @@ use lib.ListN.{length, getD, length-set}
 use borrow.Author.Tests.{eq-eqb, ne-eqb, lt-ltb, le-ltb}
 use Rattle.laws.specs.Until.{untilRange, until-end, until-stop, until-turn}
 use Rattle.entry.specs.declared.answer.Answered.{Answered}
-use Rattle.machine.specs.declared.Dims.{Dims}
-use Rattle.machine.specs.State.{Caches, Outcome, outcome}
-use Rattle.machine.specs.Step.{stepRefusal, takeStep}
-use Rattle.machine.specs.Run.{Steps, Columns, written, Carried, carried, stopsAt, turn, stopped}
+use Rattle.rules.specs.declared.Dims.{Dims}
+use Rattle.rules.specs.State.{Caches, Outcome, outcome}
+use Rattle.rules.specs.Step.{stepRefusal, takeStep}
+use Rattle.rules.specs.Run.{Steps, Columns, written, Carried, carried, stopsAt, turn, stopped}
 use Rattle.runs.specs.Halting.{halted}
 
 -- a column keeps its length

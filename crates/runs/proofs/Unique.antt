@@ -6,7 +6,7 @@ use borrow.Fn.World.{ArgsD, ResD}
 use borrow.Fn.Kinds.{endedOf}
 use denote.Triple.Clauses.{AtExit}
 use denote.Ref.{now}
-use Rattle.machine.specs.Run.{columns}
+use Rattle.rules.specs.Run.{columns}
 use Rattle.runs.specs.Halting.{leftBy}
 use Rattle.runs.proofs.run as run
 use Rattle.runs.proofs.run.Kinds as run-kinds

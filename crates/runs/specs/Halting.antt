@@ -1,8 +1,8 @@
 -- A run's answer and what its columns then hold, and where its loop stopped, as all that a run leaves.
-use Rattle.machine.specs.declared.Dims.{Dims}
-use Rattle.machine.specs.declared.Ran.{Ran}
-use Rattle.machine.specs.State.{machineOf}
-use Rattle.machine.specs.Run.{Columns, Carried, Left, left}
+use Rattle.rules.specs.declared.Dims.{Dims}
+use Rattle.rules.specs.declared.Ran.{Ran}
+use Rattle.rules.specs.State.{machineOf}
+use Rattle.rules.specs.Run.{Columns, Carried, Left, left}
 use Rattle.runs.specs.declared.running.Halt.{Halt}
 
 abbrev pub leftBy : Ran → Columns → Left

@@ -5,8 +5,8 @@ ghost use mathlib.Core.Path.{_≡_};
 ghost use lib.Dec.{eqb};
 ghost use lib.ListN.{getD, set};
 ghost use Rattle.laws.specs.Choice.{both};
-ghost use Rattle.machine.specs.Run.{written};
-ghost use Rattle.machine.specs.Lent.{before, after, columnsOf};
+ghost use Rattle.rules.specs.Run.{written};
+ghost use Rattle.rules.specs.Lent.{before, after, columnsOf};
 
 pub(crate) fn byte_at(column: &[u8], i: usize) -> u8
     ensures { λ r. ⌜ r ≡ getD (before column) i 0 ⌝ }

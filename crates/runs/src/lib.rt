@@ -4,12 +4,12 @@ mod columns;
 mod running;
 
 use crate::columns::also;
-use machine::Machine;
-use machine::Ran;
+use rules::Machine;
+use rules::Ran;
 ghost use mathlib.Core.Path.{_≡_};
-ghost use Rattle.machine.specs.Run.{columnsOk, runOf};
+ghost use Rattle.rules.specs.Run.{columnsOk, runOf};
 ghost use Rattle.runs.specs.Halting.{leftBy};
-ghost use Rattle.machine.specs.Lent.{lentSteps, columnsOf};
+ghost use Rattle.rules.specs.Lent.{lentSteps, columnsOf};
 
 // The columns have one length, at most 65,536.
 fn columns_ok(
@@ -61,7 +61,7 @@ pub fn run(
         let c = columnsOf answers results read rfo write «t_read» «t_rfo» busy in
         ⌜ leftBy r (c .exit) ≡ runOf m (lentSteps ops cores words values) (c .entry) ⌝ }
 {
-    if !bus::sound(m) {
+    if !machine::sound(m) {
         return Ran {
             taken: 0,
             refusal: 9,

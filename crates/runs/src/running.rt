@@ -4,18 +4,18 @@ use crate::columns::byte_at;
 use crate::columns::number_at;
 use crate::columns::write_answer;
 use entry::answer::Answered;
-use machine::Copies;
-use machine::Dims;
-use machine::Flags;
-use machine::Memory;
+use rules::Copies;
+use rules::Dims;
+use rules::Flags;
+use rules::Memory;
 ghost use mathlib.Core.Path.{_≡_};
 ghost use Prim.Native.Nat.{_≤_};
-ghost use Rattle.machine.specs.State.{outcome};
-ghost use Rattle.machine.specs.Refusals.{accepted};
-ghost use Rattle.machine.specs.Step.{stepRefusal, takeStep};
-ghost use Rattle.machine.specs.Run.{carried, runSound};
+ghost use Rattle.rules.specs.State.{outcome};
+ghost use Rattle.rules.specs.Refusals.{accepted};
+ghost use Rattle.rules.specs.Step.{stepRefusal, takeStep};
+ghost use Rattle.rules.specs.Run.{carried, runSound};
 ghost use Rattle.runs.specs.Halting.{halted};
-ghost use Rattle.machine.specs.Lent.{lent, returned, lentSteps, columnsOf};
+ghost use Rattle.rules.specs.Lent.{lent, returned, lentSteps, columnsOf};
 
 // refusal is 0 where every step was taken.
 pub struct Halt {

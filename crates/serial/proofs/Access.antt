@@ -14,17 +14,17 @@ use Rattle.entry.specs.Numbers.{INVALID, VALID, RESERVED, DIRTY, TENTATIVE, LT,
 use Rattle.entry.specs.Packing.{entry, InRange}
 use Rattle.entry.specs.Entry.{stored, withState}
 use Rattle.entry.specs.Answer.{asked, quiet}
-use Rattle.machine.specs.declared.Dims.{Dims}
-use Rattle.machine.specs.State.{Caches, gives, entryAt, withEntry}
-use Rattle.machine.specs.Own.{home}
-use Rattle.machine.specs.Rollback.{rollback}
-use Rattle.machine.specs.Bus.{snoop, refuses}
-use Rattle.machine.specs.Transact.{finish, busy, hit}
+use Rattle.rules.specs.declared.Dims.{Dims}
+use Rattle.rules.specs.State.{Caches, gives, entryAt, withEntry}
+use Rattle.rules.specs.Own.{home}
+use Rattle.rules.specs.Rollback.{rollback}
+use Rattle.rules.specs.Snoop.{snoop, refuses}
+use Rattle.rules.specs.Transact.{finish, busy, hit}
 use Rattle.theory.specs.View.{valid, reserved, Back, tentative, View}
 use Rattle.theory.specs.Change.{At}
 use Rattle.theory.proofs.Cache.{Slot, is-self, backOf, back-is, Line}
 use Rattle.theory.proofs.Updates.{AllTidy, turned}
-use Rattle.theory.specs.Bus.{Kind, reading, owning, gets, puts, fails, Opened, Held, has-it, raises, Denied, no-raise, enough}
+use Rattle.theory.specs.Protocol.{Kind, reading, owning, gets, puts, fails, Opened, Held, has-it, raises, Denied, no-raise, enough}
 use Rattle.theory.proofs.Refine.{same-refl}
 use Rattle.serial.specs.Shown.{byAccess}
 use Rattle.serial.specs.Taking.{valueEnd}

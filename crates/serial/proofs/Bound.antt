@@ -10,21 +10,21 @@ use Rattle.entry.specs.declared.answer.Answer.the-variants.{Value, Done, Succes
 use Rattle.entry.specs.declared.answer.Counts.{Counts}
 use Rattle.entry.specs.Numbers.{VALID, DIRTY, NORMAL, TENTATIVE, LOAD, STORE, LT, LTX, ST, COMMIT, ABORT, VALIDATE, INTERRUPT, RFO, T-READ, T-RFO}
 use Rattle.entry.specs.Answer.{asked, quiet, noCycles, refusedBy}
-use Rattle.machine.specs.declared.Dims.{Dims}
-use Rattle.machine.specs.declared.Machine.{Machine}
-use Rattle.machine.specs.State.{Caches, cachesOf, Outcome, Counted, counted, lineAt, entryAt, TSTATUS}
-use Rattle.machine.specs.Own.{home, holds, findEntry, freeSlot}
-use Rattle.machine.specs.Rollback.{rollback, begun}
-use Rattle.machine.specs.Bus.{writes, clearEntry, refuses}
-use Rattle.machine.specs.Load.{loadMiss, loadOn, load}
-use Rattle.machine.specs.Store.{rollOwn, dropNormal, storeThrough, storeMiss, storeLine, store}
-use Rattle.machine.specs.Transact.{requestOf, dropLine, finish, hit, openNormal, clearBackup, fill, request, missAt, miss, seek, transact}
-use Rattle.machine.specs.Ends.{commit, abort, validate, interrupt}
-use Rattle.machine.specs.Making.{dims}
-use Rattle.machine.specs.SoundTest.{soundOf}
-use Rattle.machine.specs.Refusals.{accepted, notSound}
-use Rattle.machine.specs.Step.{stepRefusal, takeStep, stepped, steppedOf, stepSound, stepOf}
-use Rattle.machine.proofs.Table.{row, case, passes}
+use Rattle.rules.specs.declared.Dims.{Dims}
+use Rattle.rules.specs.declared.Machine.{Machine}
+use Rattle.rules.specs.State.{Caches, cachesOf, Outcome, Counted, counted, lineAt, entryAt, TSTATUS}
+use Rattle.rules.specs.Own.{home, holds, findEntry, freeSlot}
+use Rattle.rules.specs.Rollback.{rollback, begun}
+use Rattle.rules.specs.Snoop.{writes, clearEntry, refuses}
+use Rattle.rules.specs.Load.{loadMiss, loadOn, load}
+use Rattle.rules.specs.Store.{rollOwn, dropNormal, storeThrough, storeMiss, storeLine, store}
+use Rattle.rules.specs.Transact.{requestOf, dropLine, finish, hit, openNormal, clearBackup, fill, request, missAt, miss, seek, transact}
+use Rattle.rules.specs.Ends.{commit, abort, validate, interrupt}
+use Rattle.rules.specs.Making.{dims}
+use Rattle.rules.specs.SoundTest.{soundOf}
+use Rattle.rules.specs.Refusals.{accepted, notSound}
+use Rattle.rules.specs.Step.{stepRefusal, takeStep, stepped, steppedOf, stepSound, stepOf}
+use Rattle.rules.proofs.Table.{row, case, passes}
 use Rattle.serial.specs.Bounded.{Bounded}
 use Rattle.serial.proofs.Access.{Access, lt, ltx, st, number}
 

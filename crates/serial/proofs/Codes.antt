@@ -9,7 +9,7 @@ use borrow.Author.Tests.{eqb-true}
 use Rattle.laws.specs.Choice.{pick}
 use Rattle.entry.specs.declared.Entry.{Entry}
 use Rattle.entry.specs.Numbers.{INVALID, RESERVED, DIRTY, NORMAL, BACKUP, TENTATIVE}
-use Rattle.machine.specs.declared.Dims.{Dims}
+use Rattle.rules.specs.declared.Dims.{Dims}
 use Rattle.theory.specs.View.{LineState, valid, reserved, dirty, above, isDirty}
 use Rattle.theory.proofs.Cache.{slotNormal, slotBackup, slotTentative, blank, filled}
 use Rattle.serial.proofs.Decode.{stateOf, slotBy, slotOf, lineOf}

@@ -13,9 +13,9 @@ use Rattle.laws.specs.Choice.{pick, both}
 use Rattle.entry.specs.declared.Entry.{Entry}
 use Rattle.entry.specs.Numbers.{INVALID, RESERVED, DIRTY, NORMAL, BACKUP, TENTATIVE}
 use Rattle.entry.specs.Packing.{pack, unpack, InRange, unpack-pack}
-use Rattle.machine.specs.declared.Dims.{Dims}
-use Rattle.machine.specs.State.{Caches, place, copyAt, withCopy, wordAt, TACTIVE, TSTATUS}
-use Rattle.machine.specs.Own.{home}
+use Rattle.rules.specs.declared.Dims.{Dims}
+use Rattle.rules.specs.State.{Caches, place, copyAt, withCopy, wordAt, TACTIVE, TSTATUS}
+use Rattle.rules.specs.Own.{home}
 use Rattle.theory.specs.View.{LineState, valid, reserved, dirty, View}
 use Rattle.theory.proofs.Cache.{Slot, vacant, slotNormal, slotBackup, slotTentative, Line, blank, filled}
 use Rattle.theory.proofs.Updates.{State, view}

@@ -5,19 +5,19 @@ use Prim.Native.Nat.{ℕ, _<_}
 use borrow.Author.Tests.{lt-ltb}
 use Rattle.entry.specs.declared.answer.Answer.{Answer}
 use Rattle.entry.specs.declared.answer.Answer.the-variants.{Value}
-use Rattle.machine.specs.declared.Dims.{Dims}
-use Rattle.machine.specs.declared.Machine.{Machine}
-use Rattle.machine.specs.declared.Stepped.{Stepped}
-use Rattle.machine.specs.State.{Caches, cachesOf, machineOf}
-use Rattle.machine.specs.Refusals.{accepted}
-use Rattle.machine.specs.Making.{fresh, makeOf}
-use Rattle.machine.specs.Settled.{settledIn}
-use Rattle.machine.specs.Sound.{Sound}
-use Rattle.machine.specs.Step.{takeStep, settledOf, stepOf}
+use Rattle.rules.specs.declared.Dims.{Dims}
+use Rattle.rules.specs.declared.Machine.{Machine}
+use Rattle.rules.specs.declared.Stepped.{Stepped}
+use Rattle.rules.specs.State.{Caches, cachesOf, machineOf}
+use Rattle.rules.specs.Refusals.{accepted}
+use Rattle.rules.specs.Making.{fresh, makeOf}
+use Rattle.rules.specs.Settled.{settledIn}
+use Rattle.rules.specs.Sound.{Sound}
+use Rattle.rules.specs.Step.{takeStep, settledOf, stepOf}
 use Rattle.theory.specs.Event.{Event}
 use Rattle.theory.specs.Plain.{Serial, Opaque, after, unlogged}
 use Rattle.theory.proofs.Settled.{settled, Coherent, coherent→agree}
-use Rattle.theory.specs.Bus.{Step}
+use Rattle.theory.specs.Protocol.{Step}
 use Rattle.theory.proofs.History
 use Rattle.theory.proofs.History.{History, history-serial}
 use Rattle.sound.proofs.Exact.{sound-true}

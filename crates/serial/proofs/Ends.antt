@@ -14,11 +14,11 @@ use Rattle.entry.specs.Numbers.{BACKUP, TENTATIVE}
 use Rattle.entry.specs.Packing.{InRange}
 use Rattle.entry.specs.Answer.{noCycles}
 use Rattle.entry.specs.Entry.{rolledBack, committed}
-use Rattle.machine.specs.declared.Dims.{Dims}
-use Rattle.machine.specs.State.{Caches, caches, copyAt, withFlags, Outcome, gives, TSTATUS, trueFlag}
-use Rattle.machine.specs.Own.{home}
-use Rattle.machine.specs.Rollback.{overEntries, rolledEntries, committedEntries, rollback, begun, ended}
-use Rattle.machine.specs.Ends
+use Rattle.rules.specs.declared.Dims.{Dims}
+use Rattle.rules.specs.State.{Caches, caches, copyAt, withFlags, Outcome, gives, TSTATUS, trueFlag}
+use Rattle.rules.specs.Own.{home}
+use Rattle.rules.specs.Rollback.{overEntries, rolledEntries, committedEntries, rollback, begun, ended}
+use Rattle.rules.specs.Ends
 use Rattle.theory.specs.Event.{Event}
 use Rattle.theory.specs.View.{View}
 use Rattle.theory.specs.View
@@ -26,7 +26,7 @@ use Rattle.theory.specs.Change.{OnlyProcessor, same}
 use Rattle.theory.proofs.Cache.{Slot, vacant}
 use Rattle.theory.proofs.AllSlots.{slotRollback, slotCommit}
 use Rattle.theory.proofs.Updates.{AllTidy, SlotMap, rolled-back, slots-committed, flagged}
-use Rattle.theory.specs.Bus.{RolledBack, Woken, Ended, Step, commit-yes, over, aborts, validate-yes, interrupts}
+use Rattle.theory.specs.Protocol.{RolledBack, Woken, Ended, Step, commit-yes, over, aborts, validate-yes, interrupts}
 use Rattle.theory.proofs.Refine.{same-refl}
 use Rattle.serial.specs.Shown.{byEnd}
 use Rattle.serial.proofs.Decode.{slotOf, decoded, seen, read-at, read-same}

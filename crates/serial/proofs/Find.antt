@@ -10,14 +10,14 @@ use Rattle.laws.specs.Choice.{both, both-true, both-left, both-right}
 use Rattle.laws.specs.Search.{firstFrom, first-has, first-not}
 use Rattle.entry.specs.declared.Entry.{Entry}
 use Rattle.entry.specs.Numbers.{INVALID, DIRTY, NORMAL, TENTATIVE}
-use Rattle.machine.specs.declared.Dims.{Dims}
-use Rattle.machine.specs.State.{Caches, lineAt, entryAt}
-use Rattle.machine.specs.Own.{home, holds, hasEntry, findEntry}
+use Rattle.rules.specs.declared.Dims.{Dims}
+use Rattle.rules.specs.State.{Caches, lineAt, entryAt}
+use Rattle.rules.specs.Own.{home, holds, hasEntry, findEntry}
 use Rattle.theory.specs.View.{Back, Copy, none, regular, normal, tentative, isTentative}
 use Rattle.theory.proofs.Cache.{vacant, slotNormal, slotTentative, blank, filled, regularOn, is-self, is-true, looks, in-line, back-is, backOf}
 use Rattle.theory.proofs.Slots.{look-normal, look-tentative}
 use Rattle.theory.proofs.Looks.{normal-seen, tentative-seen, regular-seen}
-use Rattle.theory.specs.Bus.{isNormal, isRegular}
+use Rattle.theory.specs.Protocol.{isNormal, isRegular}
 use Rattle.serial.proofs.Decode.{stateOf, slotOf, lineOf, decoded, seen, read-at}
 use Rattle.serial.proofs.Frame.{LineFits, EntryFits, Fits, Size}
 use Rattle.serial.proofs.Set.{Fit}

@@ -12,12 +12,12 @@ use Rattle.laws.specs.Choice.{both-true}
 use Rattle.entry.specs.declared.Entry.{Entry}
 use Rattle.entry.specs.Numbers.{INVALID, RESERVED, DIRTY, NORMAL, BACKUP, TENTATIVE}
 use Rattle.entry.specs.Packing.{noEntry}
-use Rattle.machine.specs.declared.Dims.{Dims}
-use Rattle.machine.specs.State.{Caches, lineAt, entryAt, activePlace, statusPlace, falseFlag, trueFlag}
-use Rattle.machine.specs.Own.{home}
-use Rattle.machine.specs.Making.{dimsRefusal}
-use Rattle.machine.specs.Refusals.{accepted}
-use Rattle.machine.specs.Sound.{Sound, Held, Copy, Tentative}
+use Rattle.rules.specs.declared.Dims.{Dims}
+use Rattle.rules.specs.State.{Caches, lineAt, entryAt, activePlace, statusPlace, falseFlag, trueFlag}
+use Rattle.rules.specs.Own.{home}
+use Rattle.rules.specs.Making.{dimsRefusal}
+use Rattle.rules.specs.Refusals.{accepted}
+use Rattle.rules.specs.Sound.{Sound, Held, Copy, Tentative}
 use Rattle.theory.specs.View.{LineState, regular, above, isDirty, has, exclusive, below}
 use Rattle.theory.specs.View
 use Rattle.theory.proofs.OneWord.{below-above}

@@ -11,8 +11,8 @@ use lib.ListN.{length, getD, set, length-set, List·getD-eq-default}
 use lib.Seq.{getD-set-same, getD-set-other}
 use borrow.Author.Tests.{ltb-true, lt-ltb}
 use Rattle.laws.specs.Choice.{both}
-use Rattle.machine.specs.State.{activePlace, statusPlace, falseFlag, trueFlag}
-use Rattle.machine.specs.Rollback.{statusDown}
+use Rattle.rules.specs.State.{activePlace, statusPlace, falseFlag, trueFlag}
+use Rattle.rules.specs.Rollback.{statusDown}
 use Rattle.serial.proofs.Frame.{Flags}
 
 -- a flag of each of n processors, which stands at `at`

@@ -14,10 +14,10 @@ use Rattle.laws.specs.Choice.{pick}
 use Rattle.entry.specs.declared.Entry.{Entry}
 use Rattle.entry.specs.Numbers.{INVALID, DIRTY}
 use Rattle.entry.specs.Packing.{pack, noEntry, packedEnd, InRange, pack-range}
-use Rattle.machine.specs.declared.Dims.{Dims}
-use Rattle.machine.specs.State.{Caches, place, copyAt, withCopy, activePlace, statusPlace, trueFlag}
-use Rattle.machine.specs.Own.{home}
-use Rattle.machine.specs.Bus.{writtenBack}
+use Rattle.rules.specs.declared.Dims.{Dims}
+use Rattle.rules.specs.State.{Caches, place, copyAt, withCopy, activePlace, statusPlace, trueFlag}
+use Rattle.rules.specs.Own.{home}
+use Rattle.rules.specs.Snoop.{writtenBack}
 use Rattle.serial.specs.Taking.{valueEnd}
 use Rattle.serial.proofs.Decode.{copy-here, copy-else}
 

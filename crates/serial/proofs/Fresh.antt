@@ -13,13 +13,13 @@ use borrow.Author.Tests.{eqb-true, eqb-false}
 use Rattle.laws.specs.Choice.{pick, both}
 use Rattle.entry.specs.declared.Entry.{Entry}
 use Rattle.entry.specs.Packing.{unpack, packedEnd}
-use Rattle.machine.specs.declared.Dims.{Dims}
-use Rattle.machine.specs.declared.Machine.{Machine}
-use Rattle.machine.specs.State.{place, copyAt, machineOf, activePlace, statusPlace, falseFlag, trueFlag}
-use Rattle.machine.specs.Own.{home}
-use Rattle.machine.specs.Refusals.{accepted, badMemory}
-use Rattle.machine.specs.Making.{dimsRefusal, makeRefusal, padded, freshFlags, fresh, smallest, made, makeOf}
-use Rattle.machine.specs.Sound.{Sound}
+use Rattle.rules.specs.declared.Dims.{Dims}
+use Rattle.rules.specs.declared.Machine.{Machine}
+use Rattle.rules.specs.State.{place, copyAt, machineOf, activePlace, statusPlace, falseFlag, trueFlag}
+use Rattle.rules.specs.Own.{home}
+use Rattle.rules.specs.Refusals.{accepted, badMemory}
+use Rattle.rules.specs.Making.{dimsRefusal, makeRefusal, padded, freshFlags, fresh, smallest, made, makeOf}
+use Rattle.rules.specs.Sound.{Sound}
 use Rattle.theory.proofs.Cache.{vacant, blank}
 use Rattle.theory.proofs.Settled.{Bare, bare-inv, agree→coherent}
 use Rattle.theory.proofs.Looks.{tidy-empty, look-empty}

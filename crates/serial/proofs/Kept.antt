@@ -9,14 +9,14 @@ use borrow.Author.Tests.{eqb-true, eqb-false, eq-eqb, not-false}
 use Rattle.laws.specs.Choice.{pick}
 use Rattle.laws.specs.Until.{until-inv}
 use Rattle.entry.specs.Answer.{refusalNumber, refusedBy}
-use Rattle.machine.specs.declared.Dims.{Dims}
-use Rattle.machine.specs.declared.Machine.{Machine}
-use Rattle.machine.specs.State.{Caches, cachesOf}
-use Rattle.machine.specs.Refusals.{accepted, notSound, badColumns}
-use Rattle.machine.specs.Sound.{Sound}
-use Rattle.machine.specs.SoundTest.{soundOf}
-use Rattle.machine.specs.Step.{stepRefusal, takeStep, stepped, steppedOf, stepSound, stepOf}
-use Rattle.machine.specs.Run.{Steps, Columns, columnsOk, Carried, carried, left, refusalAt, stopsAt, turn, runSound, runOf}
+use Rattle.rules.specs.declared.Dims.{Dims}
+use Rattle.rules.specs.declared.Machine.{Machine}
+use Rattle.rules.specs.State.{Caches, cachesOf}
+use Rattle.rules.specs.Refusals.{accepted, notSound, badColumns}
+use Rattle.rules.specs.Sound.{Sound}
+use Rattle.rules.specs.SoundTest.{soundOf}
+use Rattle.rules.specs.Step.{stepRefusal, takeStep, stepped, steppedOf, stepSound, stepOf}
+use Rattle.rules.specs.Run.{Steps, Columns, columnsOk, Carried, carried, left, refusalAt, stopsAt, turn, runSound, runOf}
 use Rattle.theory.proofs.Coherent.{coherent-step}
 use Rattle.sound.proofs.Exact.{sound-true}
 use Rattle.serial.specs.Taking.{valueEnd, Values, SoundState}

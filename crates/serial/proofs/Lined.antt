@@ -12,18 +12,18 @@ use Rattle.laws.specs.Choice.{pick, both-right}
 use Rattle.entry.specs.declared.Entry.{Entry}
 use Rattle.entry.specs.Numbers.{INVALID}
 use Rattle.entry.specs.Packing.{noEntry, InRange, unpack-range}
-use Rattle.machine.specs.declared.Dims.{Dims}
-use Rattle.machine.specs.State.{Caches, lineAt, counted}
-use Rattle.machine.specs.Own.{home, holds}
-use Rattle.machine.specs.Bus.{writes, writtenBack, clearLine}
-use Rattle.machine.specs.Transact.{dropLine}
+use Rattle.rules.specs.declared.Dims.{Dims}
+use Rattle.rules.specs.State.{Caches, lineAt, counted}
+use Rattle.rules.specs.Own.{home, holds}
+use Rattle.rules.specs.Snoop.{writes, writtenBack, clearLine}
+use Rattle.rules.specs.Transact.{dropLine}
 use Rattle.theory.specs.View.{LineState, none, regular}
 use Rattle.theory.specs.Change.{At}
 use Rattle.theory.proofs.Cache.{Slot, Line, vacant, blank, filled, mainOn, look}
 use Rattle.theory.proofs.Slots.{look-none}
 use Rattle.theory.proofs.Lines.{lineIs, line-main, look-line}
 use Rattle.theory.proofs.Updates.{AllTidy, LineSet, lined, line-in, line-out}
-use Rattle.theory.specs.Bus.{Freed, empty, regular-freed, Unregular, none-regular, was-regular, isRegular}
+use Rattle.theory.specs.Protocol.{Freed, empty, regular-freed, Unregular, none-regular, was-regular, isRegular}
 use Rattle.theory.proofs.Serve.{at-still}
 use Rattle.theory.proofs.Refine.{same-refl}
 use Rattle.serial.proofs.Decode.{stateOf, slotOf, lineOf, decoded, seen, read-same}

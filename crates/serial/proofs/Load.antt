@@ -12,18 +12,18 @@ use Rattle.entry.specs.declared.answer.Answer.the-variants.{Value}
 use Rattle.entry.specs.Numbers.{INVALID, VALID, RESERVED, DIRTY, NORMAL, TENTATIVE, READ}
 use Rattle.entry.specs.Packing.{entry, InRange}
 use Rattle.entry.specs.Answer.{noCycles}
-use Rattle.machine.specs.declared.Dims.{Dims}
-use Rattle.machine.specs.State.{Caches, gives, lineAt, entryAt, wordAt}
-use Rattle.machine.specs.Own.{home, holds, findEntry}
-use Rattle.machine.specs.Rollback.{rollback}
-use Rattle.machine.specs.Bus.{clearLine, plainRequest}
-use Rattle.machine.specs.Load
+use Rattle.rules.specs.declared.Dims.{Dims}
+use Rattle.rules.specs.State.{Caches, gives, lineAt, entryAt, wordAt}
+use Rattle.rules.specs.Own.{home, holds, findEntry}
+use Rattle.rules.specs.Rollback.{rollback}
+use Rattle.rules.specs.Snoop.{clearLine, plainRequest}
+use Rattle.rules.specs.Load
 use Rattle.theory.specs.View.{LineState, Back, bare, backup, Copy, none, regular, normal, tentative, above, isTentative, rolledBack}
 use Rattle.theory.proofs.Cache.{mainOn}
 use Rattle.theory.proofs.Slots.{look-none}
 use Rattle.theory.proofs.Lines.{lineIs}
 use Rattle.theory.proofs.Agree.{rolledBack-tentative}
-use Rattle.theory.specs.Bus.{load-hit, load-back, load-miss, load-bare, Fetched, Plainly, reading, isRegular, RolledBack}
+use Rattle.theory.specs.Protocol.{load-hit, load-back, load-miss, load-bare, Fetched, Plainly, reading, isRegular, RolledBack}
 use Rattle.theory.proofs.Refine.{same-refl, freed-none}
 use Rattle.serial.specs.Shown.{byLoad}
 use Rattle.serial.proofs.Decode.{stateOf, decoded, seen}

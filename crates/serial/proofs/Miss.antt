@@ -15,19 +15,19 @@ use Rattle.entry.specs.declared.answer.Answer.the-variants.{Aborted}
 use Rattle.entry.specs.Numbers.{INVALID, VALID, RESERVED, DIRTY, BACKUP, TENTATIVE, T-READ, T-RFO}
 use Rattle.entry.specs.Packing.{entry, noEntry, InRange}
 use Rattle.entry.specs.Answer.{asked, quiet}
-use Rattle.machine.specs.declared.Dims.{Dims}
-use Rattle.machine.specs.State.{Caches, caches, gives, counted, entryAt, withCopy, withEntry, wordAt}
-use Rattle.machine.specs.Own.{home, freeSlot}
-use Rattle.machine.specs.Rollback.{rollback}
-use Rattle.machine.specs.Bus.{writes, clearEntry, snoop, refuses}
-use Rattle.machine.specs.Transact.{finish, busy, clearBackup, fillBackup, fill, request, missAt, miss}
+use Rattle.rules.specs.declared.Dims.{Dims}
+use Rattle.rules.specs.State.{Caches, caches, gives, counted, entryAt, withCopy, withEntry, wordAt}
+use Rattle.rules.specs.Own.{home, freeSlot}
+use Rattle.rules.specs.Rollback.{rollback}
+use Rattle.rules.specs.Snoop.{writes, clearEntry, snoop, refuses}
+use Rattle.rules.specs.Transact.{finish, busy, clearBackup, fillBackup, fill, request, missAt, miss}
 use Rattle.theory.specs.View.{Back, bare, backup, none, tentative, View}
 use Rattle.theory.specs.Change.{At}
 use Rattle.theory.proofs.Moves.{at-trans}
 use Rattle.theory.proofs.Cache.{slotBackup, slotTentative, backOn}
 use Rattle.theory.proofs.Looks.{none-backs}
 use Rattle.theory.proofs.Updates.{AllTidy, SlotSet, entered, backs-up}
-use Rattle.theory.specs.Bus.{Kind, reading, owning, granted, Opened, misses, no-room, no-grant, Freed, empty}
+use Rattle.theory.specs.Protocol.{Kind, reading, owning, granted, Opened, misses, no-room, no-grant, Freed, empty}
 use Rattle.theory.proofs.Refine.{same-refl, freed-none}
 use Rattle.serial.specs.Shown.{byAccess}
 use Rattle.serial.specs.Taking.{valueEnd}

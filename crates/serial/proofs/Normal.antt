@@ -15,18 +15,18 @@ use Rattle.entry.specs.declared.Entry.{Entry}
 use Rattle.entry.specs.Numbers.{INVALID, RESERVED, DIRTY, NORMAL, BACKUP, TENTATIVE}
 use Rattle.entry.specs.Packing.{entry, noEntry, pack, InRange, unpack-range}
 use Rattle.entry.specs.Entry.{withTag, withState}
-use Rattle.machine.specs.declared.Dims.{Dims}
-use Rattle.machine.specs.State.{Caches, caches, place, entryAt, withCopy, withEntry, counted}
-use Rattle.machine.specs.Own.{home, freeSlot}
-use Rattle.machine.specs.Bus.{writes, writtenBack, clearEntry}
-use Rattle.machine.specs.Transact.{openNormal}
+use Rattle.rules.specs.declared.Dims.{Dims}
+use Rattle.rules.specs.State.{Caches, caches, place, entryAt, withCopy, withEntry, counted}
+use Rattle.rules.specs.Own.{home, freeSlot}
+use Rattle.rules.specs.Snoop.{writes, writtenBack, clearEntry}
+use Rattle.rules.specs.Transact.{openNormal}
 use Rattle.theory.specs.View.{LineState, valid, reserved, dirty, bare, backup, normal, tentative, dried}
 use Rattle.theory.specs.Change.{At}
 use Rattle.theory.proofs.Moves.{at-trans}
 use Rattle.theory.proofs.Cache.{vacant, slotNormal, slotBackup, slotTentative, mainOn, backOn}
 use Rattle.theory.proofs.Cache.{tentativeOn, is-self, unbacked, main-tentative, not-true}
 use Rattle.theory.proofs.Updates.{AllTidy, SlotSet, turned, backs-up}
-use Rattle.theory.specs.Bus.{Begun, with-backup, without}
+use Rattle.theory.specs.Protocol.{Begun, with-backup, without}
 use Rattle.serial.specs.Taking.{valueEnd}
 use Rattle.serial.proofs.Decode.{stateOf, slotOf, decoded, seen, copy-here, copy-else}
 use Rattle.serial.proofs.Frame.{EntryFits, Fits, fits-word}

@@ -15,9 +15,9 @@ use Rattle.entry.specs.declared.Entry.{Entry}
 use Rattle.entry.specs.Numbers.{INVALID, NORMAL, BACKUP, TENTATIVE}
 use Rattle.entry.specs.Packing.{unpack, noEntry, packedEnd, InRange, unpack-pack, unpack-range, pack-range}
 use Rattle.entry.specs.Entry.{withTag, rolledBack, committed}
-use Rattle.machine.specs.declared.Dims.{Dims}
-use Rattle.machine.specs.State.{place, copyAt}
-use Rattle.machine.specs.Rollback.{repacked, overEntries}
+use Rattle.rules.specs.declared.Dims.{Dims}
+use Rattle.rules.specs.State.{place, copyAt}
+use Rattle.rules.specs.Rollback.{repacked, overEntries}
 use Rattle.theory.proofs.AllSlots.{slotRollback, slotCommit}
 use Rattle.serial.proofs.Decode.{slotBy, slotOf}
 use Rattle.serial.proofs.Frame.{EntryFits, Fits, Copies}

@@ -13,15 +13,15 @@ use Rattle.entry.specs.declared.Entry.{Entry}
 use Rattle.entry.specs.Numbers.{INVALID, NORMAL, TENTATIVE, READ, RFO, WRITE, T-READ, T-RFO}
 use Rattle.entry.specs.Packing.{unpack-range}
 use Rattle.entry.specs.Entry.{snooped}
-use Rattle.machine.specs.declared.Dims.{Dims}
-use Rattle.machine.specs.State.{Caches, lineAt, entryAt}
-use Rattle.machine.specs.Own.{home, holds, hasLive, liveEntry}
-use Rattle.machine.specs.Bus.{writtenBack, snoopLine, snoopEntry, snoopOne, snoop, refuses, rollOthers, plainRequest}
+use Rattle.rules.specs.declared.Dims.{Dims}
+use Rattle.rules.specs.State.{Caches, lineAt, entryAt}
+use Rattle.rules.specs.Own.{home, holds, hasLive, liveEntry}
+use Rattle.rules.specs.Snoop.{writtenBack, snoopLine, snoopEntry, snoopOne, snoop, refuses, rollOthers, plainRequest}
 use Rattle.theory.specs.View.{Copy, none, regular, normal, tentative}
 use Rattle.theory.proofs.Cache.{vacant, blank, mainOn, is-self}
 use Rattle.theory.proofs.Looks.{normal-seen, tentative-seen, look-empty}
-use Rattle.theory.specs.Bus.{Each, Snooped, own, other, Kind, reading, owning, snoops, supplied, Plainly, Granted}
-use Rattle.theory.specs.Bus
+use Rattle.theory.specs.Protocol.{Each, Snooped, own, other, Kind, reading, owning, snoops, supplied, Plainly, Granted}
+use Rattle.theory.specs.Protocol
 use Rattle.theory.proofs.Refine.{same-refl}
 use Rattle.theory.proofs.Serve.{cleared, refuses-roll, refuses-none}
 use Rattle.serial.proofs.Decode.{slotOf, lineOf, decoded, seen, read-out}
@@ -70,7 +70,7 @@ module _ (s : Caches) (q n w : ℕ) where
           (eq-eqb (entryAt s q i .word) w hw)
 
 module _ {d : Dims} {s : Caches} (F : Fit d s) (q : ℕ) (lq : q < d .processors) (w : ℕ) (k : Kind) (c : ℕ) (C : Cycle k c)
-    (grants : Bus.refuses k (seen d s .copy w q) ≡ false) where
+    (grants : Protocol.refuses k (seen d s .copy w q) ≡ false) where
   -- no slot of q is w's own: no entry is asked
   no-live : ((i : ℕ) → i < d .entries → mainOn w (decoded d s .slot q i) ≡ false) → d .entries ≤ liveEntry (s .entries) q (d .entries) w
   no-live g = elim (decLt i (d .entries)) [ yes l ↦ absurd (clash l (live-found s q (d .entries) w l)) | no l ↦ omega arith ]
@@ -110,7 +110,7 @@ module _ {d : Dims} {s : Caches} (F : Fit d s) (q : ℕ) (lq : q < d .processors
       gone : d .entries ≤ i → seen d s .copy w q ≡ none
       gone l = go (seen d s .copy w q) refl (no-regular F q lq w (lineAt s q (home d w)) refl o)
         where
-          go : (x : Copy) → seen d s .copy w q ≡ x → Bus.isRegular x ≡ false → x ≡ none
+          go : (x : Copy) → seen d s .copy w q ≡ x → Protocol.isRegular x ≡ false → x ≡ none
           go none z n = refl
           go (regular a b) z n = absurd (true≢false n)
           go (normal a b) z n =
@@ -198,8 +198,8 @@ pub record Served (d : Dims) (p : ℕ) (s s′ : Caches) : Type 0 where
   pub own : Own p s s′
 
 module _ {d : Dims} {s : Caches} (F : Fit d s) (k : Kind) (c : ℕ) (C : Cycle k c) (p w : ℕ) (lp : p < d .processors) where
-  spare : ((q : ℕ) → q < d .processors → q ≢ p → Bus.refuses k (seen d s .copy w q) ≡ false)
-      → (q : ℕ) → q ≢ p → Bus.refuses k (seen d s .copy w q) ≡ false
+  spare : ((q : ℕ) → q < d .processors → q ≢ p → Protocol.refuses k (seen d s .copy w q) ≡ false)
+      → (q : ℕ) → q ≢ p → Protocol.refuses k (seen d s .copy w q) ≡ false
   spare g q n = elim (decLt q (d .processors)) [ yes l ↦ g q l n | no l ↦ rw (beyond d s w q (omega arith)) (refuses-none k) ]
 
   -- T_READ and T_RFO, not refused
@@ -216,7 +216,7 @@ pub by-force : {d : Dims} {s : Caches} → Fit d s → (k : Kind) (c : ℕ) → 
 unfolding plainRequest
 by-force {d} {s} F k c C p w lp =
     let r = roll-others d k c C p w lp s F in
-    let near = cleared (Bus.refuses k) (refuses-roll k) (d .processors) p w (r .1) in
+    let near = cleared (Protocol.refuses k) (refuses-roll k) (d .processors) p w (r .1) in
     let free = spare (r .0 .fit) k c C p w lp (λ q l n. near .near q l n) in
     let a = snooping d k c C p w lp s (rollOthers d p w c s) (record { fit = r .0 .fit; spared = free; kept = r .0 .own }) in
     (record { fit = a .0 .fit; own = a .0 .kept }, record { mid = seen d (rollOthers d p w c s); rolls = r .1; asks = a .1 })

@@ -13,10 +13,10 @@ use Rattle.laws.specs.Choice.{pick}
 use Rattle.entry.specs.declared.Entry.{Entry}
 use Rattle.entry.specs.Numbers.{RESERVED, DIRTY}
 use Rattle.entry.specs.Packing.{InRange}
-use Rattle.machine.specs.declared.Dims.{Dims}
-use Rattle.machine.specs.State.{Caches, caches, withCopy, wordAt}
-use Rattle.machine.specs.Own.{home}
-use Rattle.machine.specs.Bus.{writtenBack}
+use Rattle.rules.specs.declared.Dims.{Dims}
+use Rattle.rules.specs.State.{Caches, caches, withCopy, wordAt}
+use Rattle.rules.specs.Own.{home}
+use Rattle.rules.specs.Snoop.{writtenBack}
 use Rattle.theory.specs.View.{valid, reserved, wrote}
 use Rattle.theory.proofs.Cache.{vacant, blank}
 use Rattle.theory.proofs.Updates.{AllTidy, SlotSet, LineSet}

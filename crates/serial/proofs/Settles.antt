@@ -11,16 +11,16 @@ use Rattle.laws.specs.Choice.{pick, both, either, both-true, both-left, both-ri
 use Rattle.laws.specs.Search.{firstFrom, first-has, first-not}
 use Rattle.entry.specs.declared.Entry.{Entry}
 use Rattle.entry.specs.Numbers.{INVALID, DIRTY, NORMAL, BACKUP}
-use Rattle.machine.specs.declared.Dims.{Dims}
-use Rattle.machine.specs.State.{Caches, lineAt, entryAt, wordAt}
-use Rattle.machine.specs.Own.{home, holds}
-use Rattle.machine.specs.Settled.{isSettling, hasSettling, settlingEntry, settles, settler, settledIn}
-use Rattle.machine.specs.Settled
+use Rattle.rules.specs.declared.Dims.{Dims}
+use Rattle.rules.specs.State.{Caches, lineAt, entryAt, wordAt}
+use Rattle.rules.specs.Own.{home, holds}
+use Rattle.rules.specs.Settled.{isSettling, hasSettling, settlingEntry, settles, settler, settledIn}
+use Rattle.rules.specs.Settled
 use Rattle.theory.specs.View.{bare, backup, Copy, none, regular, normal, tentative, isDirty, owns}
 use Rattle.theory.proofs.Looks.{normal-seen}
 use Rattle.theory.proofs.Agree.{Agree}
 use Rattle.theory.proofs.Settled.{baseData, owns-data}
-use Rattle.theory.specs.Bus.{isRegular}
+use Rattle.theory.specs.Protocol.{isRegular}
 use Rattle.serial.proofs.Decode.{stateOf, decoded, seen}
 use Rattle.serial.proofs.Set.{Fit}
 use Rattle.serial.proofs.Codes.{dirty-code, slot-normal}

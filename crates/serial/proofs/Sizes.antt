@@ -6,9 +6,9 @@ use native.Mathlib.Omega.{arith}
 use lib.Dec.{eqb, leb}
 use borrow.Author.Tests.{eqb-true, leb-true}
 use Rattle.laws.specs.Choice.{pick, either, both-left, both-right}
-use Rattle.machine.specs.declared.Dims.{Dims}
-use Rattle.machine.specs.Making.{within, powerOfTwo, dimsRefusal}
-use Rattle.machine.specs.Refusals.{accepted, badProcessors, badWords, badLines, badEntries}
+use Rattle.rules.specs.declared.Dims.{Dims}
+use Rattle.rules.specs.Making.{within, powerOfTwo, dimsRefusal}
+use Rattle.rules.specs.Refusals.{accepted, badProcessors, badWords, badLines, badEntries}
 use Rattle.serial.proofs.Frame.{Size}
 
 within-range : (n most : ℕ) → within n most ≡ true → (0 < n) × (n ≤ most)

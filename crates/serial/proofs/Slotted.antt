@@ -14,14 +14,14 @@ use Rattle.laws.specs.Search.{firstFrom, first-has}
 use Rattle.entry.specs.declared.Entry.{Entry}
 use Rattle.entry.specs.Numbers.{INVALID, NORMAL, BACKUP, TENTATIVE}
 use Rattle.entry.specs.Packing.{noEntry, unpack-range}
-use Rattle.machine.specs.declared.Dims.{Dims}
-use Rattle.machine.specs.State.{Caches, entryAt, wordAt}
-use Rattle.machine.specs.Own.{home, isFree, lowest, freeSlot}
-use Rattle.machine.specs.Bus.{writtenBack, clearEntry}
+use Rattle.rules.specs.declared.Dims.{Dims}
+use Rattle.rules.specs.State.{Caches, entryAt, wordAt}
+use Rattle.rules.specs.Own.{home, isFree, lowest, freeSlot}
+use Rattle.rules.specs.Snoop.{writtenBack, clearEntry}
 use Rattle.theory.specs.View.{wrote}
 use Rattle.theory.proofs.Cache.{vacant}
 use Rattle.theory.proofs.Updates.{AllTidy, SlotSet, normal-out, backup-out, unmoved}
-use Rattle.theory.specs.Bus.{Freed, empty}
+use Rattle.theory.specs.Protocol.{Freed, empty}
 use Rattle.serial.proofs.Decode.{stateOf, slotOf, decoded, seen, copy-here, copy-else}
 use Rattle.serial.proofs.Frame.{EntryFits, Fits, fits-word}
 use Rattle.serial.proofs.Set.{Fit, Memory, back-at, back-here, set-slot, entry-fit}

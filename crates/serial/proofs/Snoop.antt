@@ -12,17 +12,17 @@ use Rattle.entry.specs.declared.Entry.{Entry}
 use Rattle.entry.specs.Numbers.{INVALID, VALID, RESERVED, DIRTY, NORMAL, TENTATIVE}
 use Rattle.entry.specs.Packing.{noEntry, InRange, same-entry}
 use Rattle.entry.specs.Entry.{withState, shared, snooped, takes}
-use Rattle.machine.specs.declared.Dims.{Dims}
-use Rattle.machine.specs.State.{Caches, lineAt, entryAt, wordAt}
-use Rattle.machine.specs.Own.{home, holds}
-use Rattle.machine.specs.Bus.{writtenBack}
+use Rattle.rules.specs.declared.Dims.{Dims}
+use Rattle.rules.specs.State.{Caches, lineAt, entryAt, wordAt}
+use Rattle.rules.specs.Own.{home, holds}
+use Rattle.rules.specs.Snoop.{writtenBack}
 use Rattle.theory.specs.View.{valid, Copy, none, regular, normal, tentative, wrote, View}
 use Rattle.theory.specs.Change.{At, Same}
 use Rattle.theory.proofs.Cache.{Slot, slotNormal, slotCopy, filled, mainOn, is-self, back-is}
 use Rattle.theory.proofs.Lines.{lineIs, line-main}
 use Rattle.theory.proofs.Updates.{AllTidy, SlotSet, turned, normal-gone, unmoved}
-use Rattle.theory.specs.Bus.{Kind, reading, owning, snoops, supplied}
-use Rattle.theory.specs.Bus
+use Rattle.theory.specs.Protocol.{Kind, reading, owning, snoops, supplied}
+use Rattle.theory.specs.Protocol
 use Rattle.theory.proofs.Refine.{same-refl}
 use Rattle.serial.proofs.Decode.{stateOf, slotOf, lineOf, decoded, seen, copy-else}
 use Rattle.serial.proofs.Frame.{LineFits, EntryFits, Fits, fits-word, line-word}
@@ -59,10 +59,10 @@ left-range owning e h = none-range
 -- a state after q's turn, and what the theory asks of it
 pub record Asks (d : Dims) (k : Kind) (p w : ℕ) (s₀ s : Caches) : Type 0 where
   pub fit : Fit d s
-  pub spared : (r : ℕ) → r ≢ p → Bus.refuses k (seen d s .copy w r) ≡ false
+  pub spared : (r : ℕ) → r ≢ p → Protocol.refuses k (seen d s .copy w r) ≡ false
   pub kept : Own p s₀ s
 
-pub refuses-left : (k : Kind) (c : Copy) → Bus.refuses k (snoops k c) ≡ false
+pub refuses-left : (k : Kind) (c : Copy) → Protocol.refuses k (snoops k c) ≡ false
 refuses-left reading none = refl
 refuses-left reading (regular s d) = refl
 refuses-left reading (normal s d) = refl
@@ -90,7 +90,7 @@ same-at q w i = record {
 }
 
 module _ {d : Dims} {s : Caches} (F : Fit d s) (q : ℕ) (lq : q < d .processors) (w : ℕ) (k : Kind)
-    (grants : Bus.refuses k (seen d s .copy w q) ≡ false) where
+    (grants : Protocol.refuses k (seen d s .copy w q) ≡ false) where
   -- q has nothing of w
   pub nothing-asked : seen d s .copy w q ≡ none → Asked d k w q s s
   nothing-asked e =

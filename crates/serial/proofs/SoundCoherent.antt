@@ -9,9 +9,9 @@ use borrow.Author.Tests.{eqb-false, lt-ltb, leb-true}
 use Rattle.entry.specs.declared.Entry.{Entry}
 use Rattle.entry.specs.Numbers.{RESERVED, DIRTY}
 use Rattle.entry.specs.Packing.{InRange, unpack-range}
-use Rattle.machine.specs.declared.Dims.{Dims}
-use Rattle.machine.specs.State.{Caches, lineAt, entryAt, wordAt}
-use Rattle.machine.specs.Sound.{Sound, Copy}
+use Rattle.rules.specs.declared.Dims.{Dims}
+use Rattle.rules.specs.State.{Caches, lineAt, entryAt, wordAt}
+use Rattle.rules.specs.Sound.{Sound, Copy}
 use Rattle.theory.specs.View.{LineState, bare, backup, none, regular, normal, tentative, above, isDirty, has, exclusive, isTentative}
 use Rattle.theory.specs.View
 use Rattle.theory.specs.Change.{Live}

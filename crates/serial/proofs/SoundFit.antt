@@ -11,10 +11,10 @@ use borrow.Author.Tests.{eqb-true, eqb-false}
 use Rattle.laws.specs.Choice.{pick}
 use Rattle.entry.specs.declared.Entry.{Entry}
 use Rattle.entry.specs.Numbers.{INVALID, NORMAL, BACKUP, TENTATIVE}
-use Rattle.machine.specs.declared.Dims.{Dims}
-use Rattle.machine.specs.State.{Caches, lineAt, entryAt, wordAt}
-use Rattle.machine.specs.Own.{home}
-use Rattle.machine.specs.Sound.{Sound, Copy}
+use Rattle.rules.specs.declared.Dims.{Dims}
+use Rattle.rules.specs.State.{Caches, lineAt, entryAt, wordAt}
+use Rattle.rules.specs.Own.{home}
+use Rattle.rules.specs.Sound.{Sound, Copy}
 use Rattle.theory.proofs.Cache.{vacant, blank, filled, is-self, is-true, mainOn, backOn, tentativeOn, regularOn, Tidy, not-true}
 use Rattle.theory.proofs.Looks.{tidy-empty}
 use Rattle.serial.specs.Taking.{valueEnd}

@@ -9,15 +9,15 @@ use Rattle.laws.specs.Choice.{pick}
 use Rattle.entry.specs.declared.answer.Answer.the-variants.{Aborted}
 use Rattle.entry.specs.Numbers.{NORMAL, TENTATIVE, ST, INTERRUPT}
 use Rattle.entry.specs.Answer.{noCycles}
-use Rattle.machine.specs.declared.Dims.{Dims}
-use Rattle.machine.specs.State.{Caches, gives, Counted, entryAt, TSTATUS}
-use Rattle.machine.specs.Own.{findEntry}
-use Rattle.machine.specs.Rollback.{begun}
-use Rattle.machine.specs.Refusals.{accepted, noSuchStep, noSuchProcessor, noSuchWord}
-use Rattle.machine.specs.Transact.{dropLine, hit, openNormal, miss, seek, transact}
-use Rattle.machine.specs.Step.{stepRefusal, takeStep}
+use Rattle.rules.specs.declared.Dims.{Dims}
+use Rattle.rules.specs.State.{Caches, gives, Counted, entryAt, TSTATUS}
+use Rattle.rules.specs.Own.{findEntry}
+use Rattle.rules.specs.Rollback.{begun}
+use Rattle.rules.specs.Refusals.{accepted, noSuchStep, noSuchProcessor, noSuchWord}
+use Rattle.rules.specs.Transact.{dropLine, hit, openNormal, miss, seek, transact}
+use Rattle.rules.specs.Step.{stepRefusal, takeStep}
 use Rattle.theory.specs.View.{View}
-use Rattle.theory.specs.Bus.{Opened, Starts, not-normal, opens, dead, isRegular}
+use Rattle.theory.specs.Protocol.{Opened, Starts, not-normal, opens, dead, isRegular}
 use Rattle.theory.proofs.Refine.{same-refl}
 use Rattle.serial.specs.Shown.{byAccess, shows}
 use Rattle.serial.specs.Taking.{valueEnd}

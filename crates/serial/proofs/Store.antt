@@ -14,12 +14,12 @@ use Rattle.entry.specs.declared.answer.Answer.the-variants.{Done}
 use Rattle.entry.specs.Numbers.{INVALID, VALID, RESERVED, DIRTY, NORMAL, TENTATIVE, RFO, WRITE}
 use Rattle.entry.specs.Packing.{entry, noEntry, InRange, unpack-range}
 use Rattle.entry.specs.Answer.{quiet}
-use Rattle.machine.specs.declared.Dims.{Dims}
-use Rattle.machine.specs.State.{Caches, gives, counted, lineAt, entryAt, withLine}
-use Rattle.machine.specs.Own.{home, holds, findEntry}
-use Rattle.machine.specs.Rollback.{rollback}
-use Rattle.machine.specs.Bus.{writes, writtenBack, clearLine, clearEntry, plainRequest}
-use Rattle.machine.specs.Store
+use Rattle.rules.specs.declared.Dims.{Dims}
+use Rattle.rules.specs.State.{Caches, gives, counted, lineAt, entryAt, withLine}
+use Rattle.rules.specs.Own.{home, holds, findEntry}
+use Rattle.rules.specs.Rollback.{rollback}
+use Rattle.rules.specs.Snoop.{writes, writtenBack, clearLine, clearEntry, plainRequest}
+use Rattle.rules.specs.Store
 use Rattle.theory.specs.View.{none, regular, normal, isTentative, View}
 use Rattle.theory.specs.Change.{At}
 use Rattle.theory.proofs.Cache.{filled, mainOn}
@@ -27,8 +27,8 @@ use Rattle.theory.proofs.Slots.{look-none}
 use Rattle.theory.proofs.Lines.{lineIs, line-main}
 use Rattle.theory.proofs.Updates.{AllTidy, normal-gone}
 use Rattle.theory.proofs.Agree.{rolledBack-tentative}
-use Rattle.theory.specs.Bus.{store-hit, store-through, store-miss, Plainly, owning, isNormal}
-use Rattle.theory.specs.Bus.{Unheld, none-held, was-held, Unnormal, none-normal, was-normal}
+use Rattle.theory.specs.Protocol.{store-hit, store-through, store-miss, Plainly, owning, isNormal}
+use Rattle.theory.specs.Protocol.{Unheld, none-held, was-held, Unnormal, none-normal, was-normal}
 use Rattle.theory.proofs.Refine.{same-refl, freed-none}
 use Rattle.serial.specs.Shown.{byStore}
 use Rattle.serial.specs.Taking.{valueEnd}

@@ -9,10 +9,10 @@ use borrow.Author.Tests.{eq-eqb, ne-eqb}
 use Rattle.laws.specs.Choice.{both-true}
 use Rattle.entry.specs.declared.Entry.{Entry}
 use Rattle.entry.specs.Numbers.{INVALID, DIRTY, NORMAL, BACKUP, TENTATIVE}
-use Rattle.machine.specs.declared.Dims.{Dims}
-use Rattle.machine.specs.State.{Caches, lineAt, entryAt}
-use Rattle.machine.specs.Own.{home}
-use Rattle.machine.specs.Sound
+use Rattle.rules.specs.declared.Dims.{Dims}
+use Rattle.rules.specs.State.{Caches, lineAt, entryAt}
+use Rattle.rules.specs.Own.{home}
+use Rattle.rules.specs.Sound
 use Rattle.theory.specs.View.{LineState, valid, Back, backup, Copy, none, regular, normal, tentative, above, below, has, exclusive}
 use Rattle.theory.proofs.Cache.{Slot, vacant, slotNormal, slotBackup, slotTentative, slotBack}
 use Rattle.theory.proofs.Cache.{tentativeOn, regularOn, is-self, is-true, Backs, backed, unbacked}

@@ -5,12 +5,12 @@ use Prim.Native.Nat.{ℕ, _<_}
 use lib.ListN.{getD}
 use Rattle.entry.specs.declared.answer.Answer.{Answer}
 use Rattle.entry.specs.Answer.{refusalNumber}
-use Rattle.machine.specs.declared.Dims.{Dims}
-use Rattle.machine.specs.declared.Machine.{Machine}
-use Rattle.machine.specs.State.{Caches}
-use Rattle.machine.specs.Refusals.{accepted}
-use Rattle.machine.specs.Sound.{Sound}
-use Rattle.machine.specs.Step.{stepOf}
+use Rattle.rules.specs.declared.Dims.{Dims}
+use Rattle.rules.specs.declared.Machine.{Machine}
+use Rattle.rules.specs.State.{Caches}
+use Rattle.rules.specs.Refusals.{accepted}
+use Rattle.rules.specs.Sound.{Sound}
+use Rattle.rules.specs.Step.{stepOf}
 use Rattle.theory.specs.Event.{Event}
 use Rattle.theory.specs.Plain.{Plain, unlogged}
 use Rattle.serial.specs.Shown.{shows}

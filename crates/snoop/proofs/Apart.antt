@@ -14,11 +14,11 @@ use Rattle.laws.specs.Search.{firstFrom}
 use Rattle.laws.specs.Places.{apply-other}
 use Rattle.entry.specs.Numbers.{TENTATIVE}
 use Rattle.entry.specs.Entry.{rolledBack}
-use Rattle.machine.specs.declared.Dims.{Dims}
-use Rattle.machine.specs.State.{Caches, place, lineAt}
-use Rattle.machine.specs.Own.{holds, hasEntry, hasLive, findEntry, liveEntry}
-use Rattle.machine.specs.Rollback.{repacked, rolledEntries}
-use Rattle.machine.specs.Bus.{snoopLine, snoopEntry, snoopOne, opposes, otherOpposes}
+use Rattle.rules.specs.declared.Dims.{Dims}
+use Rattle.rules.specs.State.{Caches, place, lineAt}
+use Rattle.rules.specs.Own.{holds, hasEntry, hasLive, findEntry, liveEntry}
+use Rattle.rules.specs.Rollback.{repacked, rolledEntries}
+use Rattle.rules.specs.Snoop.{snoopLine, snoopEntry, snoopOne, opposes, otherOpposes}
 use Rattle.snoop.specs.Firsts.{firstOf, noted}
 
 first-same : (f g : ℕ → Bool) → ((i : ℕ) → f i ≡ g i) → (i n : ℕ) → firstFrom f i n ≡ firstFrom g i n

@@ -11,10 +11,10 @@ use Rattle.laws.specs.Choice.{pick, both, either}
 use Rattle.entry.specs.Numbers.{RESERVED, TENTATIVE}
 use Rattle.entry.specs.Entry.{takes}
 use Rattle.caches.proofs.Live.{none-tentative, first-tentative}
-use Rattle.machine.specs.declared.Dims.{Dims}
-use Rattle.machine.specs.State.{copyAt}
-use Rattle.machine.specs.Own.{liveEntry}
-use Rattle.machine.specs.Bus.{opposes, otherOpposes}
+use Rattle.rules.specs.declared.Dims.{Dims}
+use Rattle.rules.specs.State.{copyAt}
+use Rattle.rules.specs.Own.{liveEntry}
+use Rattle.rules.specs.Snoop.{opposes, otherOpposes}
 use Rattle.snoop.specs.Firsts.{firstOf}
 
 module _ (d : Dims) (n : ℕ) (of : d .entries ≡ n) (p word cycle : ℕ) (es : List ℕ) (q i : ℕ) (at : i ≡ firstOf n p word es q) where

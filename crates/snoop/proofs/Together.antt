@@ -13,11 +13,11 @@ use Rattle.laws.specs.Choice.{pick}
 use Rattle.laws.specs.Fold.{foldRange}
 use Rattle.laws.specs.Places.{applyAt, applyFrom}
 use Rattle.entry.specs.Entry.{rolledBack}
-use Rattle.machine.specs.declared.Dims.{Dims}
-use Rattle.machine.specs.State.{Caches, place, lineAt}
-use Rattle.machine.specs.Own.{home, holds, liveEntry}
-use Rattle.machine.specs.Rollback.{repacked, rolledEntries, rollback}
-use Rattle.machine.specs.Bus.{snoopLine, snoopEntry, snoopOne, snoop, otherOpposes, rollOne, rollOthers, plainRequest}
+use Rattle.rules.specs.declared.Dims.{Dims}
+use Rattle.rules.specs.State.{Caches, place, lineAt}
+use Rattle.rules.specs.Own.{home, holds, liveEntry}
+use Rattle.rules.specs.Rollback.{repacked, rolledEntries, rollback}
+use Rattle.rules.specs.Snoop.{snoopLine, snoopEntry, snoopOne, snoop, otherOpposes, rollOne, rollOthers, plainRequest}
 use Rattle.snoop.proofs.Apart.{kept-live, kept-opposes, apart, rolled-kept, snoop-kept}
 
 -- Two loops in one. f k is to pass every g q of an earlier turn.

@@ -9,7 +9,7 @@ use denote.Ref.{now}
 use mathlib.Core.Bool.{Bool}
 use mathlib.Core.List.{[]}
 use Rattle.laws.specs.Choice.{pick}
-use Rattle.machine.specs.State.{Caches, caches}
+use Rattle.rules.specs.State.{Caches, caches}
 use Rattle.snoop.proofs.request as request
 use Rattle.snoop.proofs.request.Kinds as request-kinds
 use Rattle.snoop.proofs.request.Reads as request-reads

@@ -5,8 +5,8 @@ use Prim.Native.Nat.{ℕ, _<_, _≤_}
 use lib.Dec.{eqb}
 use lib.ListN.{getD}
 use Rattle.laws.specs.Choice.{pick}
-use Rattle.machine.specs.declared.Dims.{Dims}
-use Rattle.machine.specs.Own.{liveEntry}
+use Rattle.rules.specs.declared.Dims.{Dims}
+use Rattle.rules.specs.Own.{liveEntry}
 
 -- the first NORMAL or tentative one of the word among q's n entries; n where there is none, and for p itself
 unfoldable pub firstOf : ℕ → ℕ → ℕ → List ℕ → ℕ → ℕ

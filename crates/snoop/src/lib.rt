@@ -4,20 +4,20 @@
 mod many;
 mod other;
 
-use machine::Copies;
-use machine::Dims;
-use machine::Flags;
-use machine::Memory;
+use rules::Copies;
+use rules::Dims;
+use rules::Flags;
+use rules::Memory;
 ghost use mathlib.Core.Path.{_≡_};
 ghost use mathlib.Core.List.{List};
 ghost use Prim.Native.Nat.{ℕ, _≤_};
 ghost use lib.Dec.{leb};
 ghost use lib.ListN.{length};
 ghost use Rattle.laws.specs.Choice.{pick};
-ghost use Rattle.machine.specs.State.{caches};
-ghost use Rattle.machine.specs.Bus.{snoop, firstOpposing, refuses, plainRequest};
+ghost use Rattle.rules.specs.State.{caches};
+ghost use Rattle.rules.specs.Snoop.{snoop, firstOpposing, refuses, plainRequest};
 ghost use Rattle.snoop.specs.Firsts.{noted};
-ghost use Rattle.machine.specs.Lent.{before, after, lent, returned};
+ghost use Rattle.rules.specs.Lent.{before, after, lent, returned};
 
 // A place for each processor.
 type Firsts = [usize; 8];

@@ -1,16 +1,16 @@
 // More than 8 processors, which are never made. There one's places are another's too, so that nothing found lasts until a later turn.
 
 use crate::other;
-use machine::Copies;
-use machine::Dims;
-use machine::Flags;
-use machine::Memory;
+use rules::Copies;
+use rules::Dims;
+use rules::Flags;
+use rules::Memory;
 ghost use mathlib.Core.Path.{_≡_};
 ghost use mathlib.Core.List.{List};
 ghost use Prim.Native.Nat.{ℕ};
-ghost use Rattle.machine.specs.State.{caches};
-ghost use Rattle.machine.specs.Bus.{snoopOne, snoop, rollOne, rollOthers, plainRequest};
-ghost use Rattle.machine.specs.Lent.{before, after, lent, returned};
+ghost use Rattle.rules.specs.State.{caches};
+ghost use Rattle.rules.specs.Snoop.{snoopOne, snoop, rollOne, rollOthers, plainRequest};
+ghost use Rattle.rules.specs.Lent.{before, after, lent, returned};
 
 fn snoop_one(
     memory: &mut Memory,

@@ -8,9 +8,9 @@ use entry::numbers::T_READ;
 use entry::numbers::T_RFO;
 use entry::numbers::TENTATIVE;
 use entry::numbers::WRITE;
-use machine::Copies;
-use machine::Flags;
-use machine::Memory;
+use rules::Copies;
+use rules::Flags;
+use rules::Memory;
 ghost use mathlib.Core.Path.{_≡_};
 ghost use mathlib.Core.List.{List};
 ghost use Prim.Native.Nat.{ℕ, _<_};
@@ -18,12 +18,12 @@ ghost use lib.Dec.{leb};
 ghost use Rattle.laws.specs.Choice.{either};
 ghost use Rattle.entry.specs.Numbers.{RESERVED};
 ghost use Rattle.entry.specs.Entry.{takes, snooped};
-ghost use Rattle.machine.specs.declared.Dims.{Dims};
-ghost use Rattle.machine.specs.State.{caches, copyAt, withCopy};
-ghost use Rattle.machine.specs.Own.{liveEntry};
-ghost use Rattle.machine.specs.Bus.{writtenBack, snoopLine, snoopEntry, snoopOne, opposes, otherOpposes, rollOne};
+ghost use Rattle.rules.specs.declared.Dims.{Dims};
+ghost use Rattle.rules.specs.State.{caches, copyAt, withCopy};
+ghost use Rattle.rules.specs.Own.{liveEntry};
+ghost use Rattle.rules.specs.Snoop.{writtenBack, snoopLine, snoopEntry, snoopOne, opposes, otherOpposes, rollOne};
 ghost use Rattle.snoop.specs.Firsts.{firstOf};
-ghost use Rattle.machine.specs.Lent.{before, after, lent, returned};
+ghost use Rattle.rules.specs.Lent.{before, after, lent, returned};
 
 pub(crate) fn first_of(entries: &Copies, n: usize, p: usize, word: u8, q: usize) -> usize
     ensures { λ r. ⌜ r ≡ firstOf n p word (before entries) q ⌝ }

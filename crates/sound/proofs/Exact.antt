@@ -1,10 +1,10 @@
 -- The test is true exactly when the state is sound. Assumes nothing.
 use mathlib.Core.Path.{_≡_}
 use mathlib.Core.Bool.{true}
-use Rattle.machine.specs.declared.Dims.{Dims}
-use Rattle.machine.specs.State.{Caches}
-use Rattle.machine.specs.Sound.{Sound}
-use Rattle.machine.specs.SoundTest.{soundOf}
+use Rattle.rules.specs.declared.Dims.{Dims}
+use Rattle.rules.specs.State.{Caches}
+use Rattle.rules.specs.Sound.{Sound}
+use Rattle.rules.specs.SoundTest.{soundOf}
 use Rattle.sound.proofs.Tested.{tested}
 use Rattle.sound.proofs.Holds.{holds}
 use Rattle.sound.proofs.Passed.{passed}

@@ -11,10 +11,10 @@ use borrow.Author.Tests.{eq-eqb, ne-eqb}
 use Rattle.entry.specs.declared.Entry.{Entry}
 use Rattle.entry.specs.Numbers.{INVALID, RESERVED, DIRTY, BACKUP, TENTATIVE}
 use Rattle.entry.specs.Packing.{packedEnd, unpack, noEntry}
-use Rattle.machine.specs.declared.Dims.{Dims}
-use Rattle.machine.specs.State.{Caches, place, lineAt, entryAt, wordAt, activePlace, statusPlace}
-use Rattle.machine.specs.Sound.{Held, Copy, Sound, activeFlag, statusFlag}
-use Rattle.machine.specs.SoundTest.{ofLines, ofEntries, marksOf, ownersOf, partnerPlace}
+use Rattle.rules.specs.declared.Dims.{Dims}
+use Rattle.rules.specs.State.{Caches, place, lineAt, entryAt, wordAt, activePlace, statusPlace}
+use Rattle.rules.specs.Sound.{Held, Copy, Sound, activeFlag, statusFlag}
+use Rattle.rules.specs.SoundTest.{ofLines, ofEntries, marksOf, ownersOf, partnerPlace}
 use Rattle.sound.proofs.Places.{place-in, place-processor, place-slot, place-of}
 use Rattle.sound.proofs.Keys.{same-key, value-once, value-kinds, owner-of}
 use Rattle.sound.proofs.Passes.{line-owner, entry-owner}

@@ -9,8 +9,8 @@ use borrow.Author.Tests.{ne-eqb}
 use Rattle.laws.specs.Choice.{pick}
 use Rattle.entry.specs.declared.Entry.{Entry}
 use Rattle.entry.specs.Numbers.{BACKUP, TENTATIVE}
-use Rattle.machine.specs.State.{place}
-use Rattle.machine.specs.SoundTest.{ofLines, ofEntries, markKey, markValue, ownerOf}
+use Rattle.rules.specs.State.{place}
+use Rattle.rules.specs.SoundTest.{ofLines, ofEntries, markKey, markValue, ownerOf}
 use Rattle.sound.proofs.Places.{place-in, place-once}
 
 -- the copy's processor, whether it is a backup, and its word, in one number

@@ -11,10 +11,10 @@ use borrow.Author.Tests.{eq-eqb, ne-eqb, eqb-true, eqb-false}
 use Rattle.entry.specs.declared.Entry.{Entry}
 use Rattle.entry.specs.Numbers.{RESERVED, BACKUP, TENTATIVE}
 use Rattle.entry.specs.Packing.{unpack, unpack-zero}
-use Rattle.machine.specs.declared.Dims.{Dims}
-use Rattle.machine.specs.State.{Caches, place, lineAt, entryAt, activePlace, statusPlace}
-use Rattle.machine.specs.Sound.{Held, Copy, Sound}
-use Rattle.machine.specs.SoundTest.{ofLines, ofEntries, markKey, markValue, marksOf, ownerOf, ownersOf, partnerPlace}
+use Rattle.rules.specs.declared.Dims.{Dims}
+use Rattle.rules.specs.State.{Caches, place, lineAt, entryAt, activePlace, statusPlace}
+use Rattle.rules.specs.Sound.{Held, Copy, Sound}
+use Rattle.rules.specs.SoundTest.{ofLines, ofEntries, markKey, markValue, marksOf, ownerOf, ownersOf, partnerPlace}
 use Rattle.sound.proofs.Places.{place-in, place-processor, place-slot, each-place}
 use Rattle.sound.proofs.Keys.{key-small, key-same, partner-key, value-place, owner-of}
 use Rattle.sound.proofs.Passes.{Filled, keyAt, Owning, wordOf, line-mark, entry-mark, owner-all}

@@ -9,7 +9,7 @@ use lib.ListN.{length, getD, set, replicate, length-replicate, getD-replicate}
 use borrow.Author.Tests.{eq-eqb, ne-eqb, le-leb, lt-leb}
 use Rattle.entry.specs.Numbers.{RESERVED}
 use Rattle.entry.specs.Packing.{unpack}
-use Rattle.machine.specs.SoundTest.{ofLines, ofEntries, markKey, markValue, markTurn, markAll, marksOf, ownerOf, ownTurn, ownAll, ownersOf}
+use Rattle.rules.specs.SoundTest.{ofLines, ofEntries, markKey, markValue, markTurn, markAll, marksOf, ownerOf, ownTurn, ownAll, ownersOf}
 use Rattle.sound.proofs.Stamp.{stamped-length, stamped-all, stamped-some}
 
 -- a copy stands at place k, and the key of its mark

@@ -2,7 +2,7 @@
 use mathlib.Core.Path.{_≡_, refl, subst}
 use Prim.Native.Nat.{ℕ, _/_, _%_, _<_}
 use native.Mathlib.Omega.{arith}
-use Rattle.machine.specs.State.{place}
+use Rattle.rules.specs.State.{place}
 
 pub place-in : (p i : ℕ) → place p i < 512
 place-in p i = omega arith

@@ -12,14 +12,14 @@ use Rattle.laws.specs.Choice.{pick, both, both-right}
 use Rattle.entry.specs.declared.Entry.{Entry}
 use Rattle.entry.specs.Numbers.{INVALID, DIRTY, BACKUP, TENTATIVE}
 use Rattle.entry.specs.Packing.{packedEnd, unpack}
-use Rattle.machine.specs.declared.Dims.{Dims}
-use Rattle.machine.specs.State.{Caches}
-use Rattle.machine.specs.Making.{within, dimsRefusal}
-use Rattle.machine.specs.Refusals.{accepted}
-use Rattle.machine.specs.Sound.{Lengths}
-use Rattle.machine.specs.SoundTest.{ofLines, ofEntries, markKey, markValue, marksOf, ownerOf, ownersOf}
-use Rattle.machine.specs.SoundTest.{copyOk, isHome, lineOk, flagsUp, partnerPlace, isPartner, backupOk, entryOk}
-use Rattle.machine.specs.SoundTest.{linesOk, entriesOk, flagsOk, memoryOk, copiesOk, soundOf}
+use Rattle.rules.specs.declared.Dims.{Dims}
+use Rattle.rules.specs.State.{Caches}
+use Rattle.rules.specs.Making.{within, dimsRefusal}
+use Rattle.rules.specs.Refusals.{accepted}
+use Rattle.rules.specs.Sound.{Lengths}
+use Rattle.rules.specs.SoundTest.{ofLines, ofEntries, markKey, markValue, marksOf, ownerOf, ownersOf}
+use Rattle.rules.specs.SoundTest.{copyOk, isHome, lineOk, flagsUp, partnerPlace, isPartner, backupOk, entryOk}
+use Rattle.rules.specs.SoundTest.{linesOk, entriesOk, flagsOk, memoryOk, copiesOk, soundOf}
 use Rattle.sound.proofs.Reflect.{Iff, eqb-iff, ltb-iff, leb-iff, differ-iff}
 use Rattle.sound.proofs.Reflect.{iff-map, both-then, both-iff, unless-iff, when-iff, below-iff, every-iff}
 

@@ -1,13 +1,13 @@
 // The arrays as a whole: their lengths, the flags, and memory past the words.
 
-use machine::Flags;
-use machine::Memory;
+use rules::Flags;
+use rules::Memory;
 ghost use mathlib.Core.Path.{_≡_};
 ghost use Prim.Native.Nat.{_%_};
 ghost use lib.Dec.{eqb, ltb, leb};
 ghost use Rattle.laws.specs.Choice.{pick};
-ghost use Rattle.machine.specs.SoundTest.{lengthsOk, flagsOk, memoryOk};
-ghost use Rattle.machine.specs.Lent.{before, lent};
+ghost use Rattle.rules.specs.SoundTest.{lengthsOk, flagsOk, memoryOk};
+ghost use Rattle.rules.specs.Lent.{before, lent};
 
 // The callers' arrays have these lengths by type. The definitions speak of lists, which have any, and an array tells its list's length
 // where it is made a slice.

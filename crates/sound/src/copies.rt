@@ -7,10 +7,10 @@ use crate::owners::Owners;
 use crate::owners::owner_of;
 use entry::Entry;
 use entry::numbers::DIRTY;
-use machine::Memory;
+use rules::Memory;
 ghost use mathlib.Core.Path.{_≡_};
-ghost use Rattle.machine.specs.SoundTest.{isClean, isOwned, isOnly, copyOk};
-ghost use Rattle.machine.specs.Lent.{before};
+ghost use Rattle.rules.specs.SoundTest.{isClean, isOwned, isOnly, copyOk};
+ghost use Rattle.rules.specs.Lent.{before};
 
 pub(crate) fn copy_ok(
     memory: &Memory,

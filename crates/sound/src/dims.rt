@@ -1,8 +1,8 @@
 // The machine's dimensions: refusals 1 to 4.
 
-use machine::Dims;
+use rules::Dims;
 ghost use mathlib.Core.Path.{_≡_};
-ghost use Rattle.machine.specs.Making.{within, powerOfTwo, dimsRefusal};
+ghost use Rattle.rules.specs.Making.{within, powerOfTwo, dimsRefusal};
 
 fn in_range(n: usize, most: usize) -> bool
     ensures { λ r. ⌜ r ≡ within n most ⌝ }

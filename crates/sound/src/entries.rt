@@ -8,13 +8,13 @@ use entry::Entry;
 use entry::numbers::BACKUP;
 use entry::numbers::INVALID;
 use entry::numbers::TENTATIVE;
-use machine::Copies;
-use machine::Dims;
-use machine::Flags;
-use machine::Memory;
+use rules::Copies;
+use rules::Dims;
+use rules::Flags;
+use rules::Memory;
 ghost use mathlib.Core.Path.{_≡_};
-ghost use Rattle.machine.specs.SoundTest.{flagsUp, isPartner, backupOk, entryOk, entriesOk};
-ghost use Rattle.machine.specs.Lent.{before};
+ghost use Rattle.rules.specs.SoundTest.{flagsUp, isPartner, backupOk, entryOk, entriesOk};
+ghost use Rattle.rules.specs.Lent.{before};
 
 pub(crate) fn entries_ok(
     memory: &Memory,

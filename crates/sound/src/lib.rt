@@ -21,13 +21,13 @@ use crate::marks::OF_LINES;
 use crate::marks::mark_all;
 use crate::owners::Owners;
 use crate::owners::own_all;
-use machine::Copies;
-use machine::Dims;
-use machine::Flags;
-use machine::Memory;
+use rules::Copies;
+use rules::Dims;
+use rules::Flags;
+use rules::Memory;
 ghost use mathlib.Core.Path.{_≡_};
-ghost use Rattle.machine.specs.SoundTest.{copiesOk, soundOf};
-ghost use Rattle.machine.specs.Lent.{lent};
+ghost use Rattle.rules.specs.SoundTest.{copiesOk, soundOf};
+ghost use Rattle.rules.specs.Lent.{lent};
 
 pub fn sound(memory: &Memory, lines: &Copies, entries: &Copies, flags: &Flags, d: Dims) -> bool
     ensures { λ r. ⌜ r ≡ soundOf d (lent memory lines entries flags) ⌝ }

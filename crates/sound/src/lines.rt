@@ -6,12 +6,12 @@ use crate::marks::OF_LINES;
 use crate::owners::Owners;
 use entry::Entry;
 use entry::numbers::INVALID;
-use machine::Copies;
-use machine::Dims;
-use machine::Memory;
+use rules::Copies;
+use rules::Dims;
+use rules::Memory;
 ghost use mathlib.Core.Path.{_≡_};
-ghost use Rattle.machine.specs.SoundTest.{lineOk, linesOk};
-ghost use Rattle.machine.specs.Lent.{before};
+ghost use Rattle.rules.specs.SoundTest.{lineOk, linesOk};
+ghost use Rattle.rules.specs.Lent.{before};
 
 pub(crate) fn lines_ok(
     memory: &Memory,

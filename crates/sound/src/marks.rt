@@ -3,11 +3,11 @@
 
 use entry::Entry;
 use entry::numbers::BACKUP;
-use machine::Copies;
+use rules::Copies;
 ghost use mathlib.Core.Path.{_≡_};
 ghost use Prim.Native.Nat.{_<_};
-ghost use Rattle.machine.specs.SoundTest.{markKey, markValue, markOne, markAll};
-ghost use Rattle.machine.specs.Lent.{before, after};
+ghost use Rattle.rules.specs.SoundTest.{markKey, markValue, markOne, markAll};
+ghost use Rattle.rules.specs.Lent.{before, after};
 
 pub type Marks = [u16; 4096];
 

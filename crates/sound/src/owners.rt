@@ -3,10 +3,10 @@
 
 use entry::Entry;
 use entry::numbers::RESERVED;
-use machine::Copies;
+use rules::Copies;
 ghost use mathlib.Core.Path.{_≡_};
-ghost use Rattle.machine.specs.SoundTest.{ownerOf, ownOne, ownAll};
-ghost use Rattle.machine.specs.Lent.{before, after};
+ghost use Rattle.rules.specs.SoundTest.{ownerOf, ownOne, ownAll};
+ghost use Rattle.rules.specs.Lent.{before, after};
 
 pub type Owners = [u8; 256];
 

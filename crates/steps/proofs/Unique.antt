@@ -5,8 +5,8 @@ use contract.Lifetimes.{Lfts}
 use borrow.Fn.World.{ArgsD, ResD}
 use borrow.Fn.Kinds.{endedOf}
 use denote.Triple.Clauses.{AtExit}
-use Rattle.machine.specs.State.{outcome}
-use Rattle.machine.specs.Lent.{seen}
+use Rattle.rules.specs.State.{outcome}
+use Rattle.rules.specs.Lent.{seen}
 use Rattle.steps.proofs.step_refusal as step-refusal
 use Rattle.steps.proofs.step_refusal.Kinds as step-refusal-kinds
 use Rattle.steps.proofs.step_refusal.Reads as step-refusal-reads

@@ -3,15 +3,15 @@
 use entry::answer::Answer;
 use entry::answer::Answered;
 use entry::answer::Counts;
-use machine::Copies;
-use machine::Dims;
-use machine::Flags;
+use rules::Copies;
+use rules::Dims;
+use rules::Flags;
 ghost use mathlib.Core.Path.{_≡_};
 ghost use Rattle.entry.specs.Answer.{answered, noCycles, refusedBy};
-ghost use Rattle.machine.specs.State.{outcome};
-ghost use Rattle.machine.specs.Refusals.{noSuchStep};
-ghost use Rattle.machine.specs.Ends.{commit, abort, validate, interrupt};
-ghost use Rattle.machine.specs.Lent.{onEntriesFlags};
+ghost use Rattle.rules.specs.State.{outcome};
+ghost use Rattle.rules.specs.Refusals.{noSuchStep};
+ghost use Rattle.rules.specs.Ends.{commit, abort, validate, interrupt};
+ghost use Rattle.rules.specs.Lent.{onEntriesFlags};
 
 fn told(answer: Answer) -> Answered
     ensures { λ r. ⌜ r ≡ answered answer noCycles ⌝ }

@@ -12,14 +12,14 @@ use entry::numbers::LTX;
 use entry::numbers::ST;
 use entry::numbers::STORE;
 use entry::numbers::VALIDATE;
-use machine::Copies;
-use machine::Dims;
-use machine::Flags;
-use machine::Memory;
+use rules::Copies;
+use rules::Dims;
+use rules::Flags;
+use rules::Memory;
 ghost use mathlib.Core.Path.{_≡_};
-ghost use Rattle.machine.specs.State.{outcome};
-ghost use Rattle.machine.specs.Step.{stepRefusal, takeStep};
-ghost use Rattle.machine.specs.Lent.{lent, returned};
+ghost use Rattle.rules.specs.State.{outcome};
+ghost use Rattle.rules.specs.Step.{stepRefusal, takeStep};
+ghost use Rattle.rules.specs.Lent.{lent, returned};
 
 // 0 where the step is taken, else the refusal's number.
 pub fn step_refusal(d: Dims, op: u8, p: usize, word: u32) -> u8

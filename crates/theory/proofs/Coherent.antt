@@ -11,7 +11,7 @@ use Rattle.theory.specs.Event.{Event}
 use Rattle.theory.proofs.Moves.{still, Shown, loads, stores, writes, treads, twrites, releases, commits, drops, Run, done, quietly, showing}
 use Rattle.theory.proofs.Agree.{Agree, agree-at, agree-silent, agree-commit, agree-flags}
 use Rattle.theory.proofs.Settled.{Coherent, Within, coarse, coherent→agree, agree→coherent}
-use Rattle.theory.specs.Bus.{Step}
+use Rattle.theory.specs.Protocol.{Step}
 use Rattle.theory.proofs.Refine.{step-run}
 
 -- the settled values that an event leaves

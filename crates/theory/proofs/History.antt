@@ -8,7 +8,7 @@ use Rattle.theory.proofs.Moves.{Run, done, quietly, showing}
 use Rattle.theory.specs.Plain.{Plain, Serial, Opaque, after, unlogged}
 use Rattle.theory.proofs.Invariant.{Inv, serial}
 use Rattle.theory.proofs.Settled.{Within, settled, Coherent, Bare, bare-inv, serializable}
-use Rattle.theory.specs.Bus.{Step}
+use Rattle.theory.specs.Protocol.{Step}
 use Rattle.theory.proofs.Refine.{step-run}
 
 -- steps one after the other, and the events that they show

@@ -13,7 +13,7 @@ use Rattle.theory.proofs.AllSlots.{slotRollback, slotCommit, tidy-commi
 use Rattle.theory.proofs.Slots.{wordIs, look-normal, look-else, tidy-out, look-out, tidy-backout}
 use Rattle.theory.proofs.Slots.{look-backout, tidy-turn, look-turn, tidy-in, look-in, tidy-back, look-back}
 use Rattle.theory.proofs.Lines.{lineIs, tidy-line, line-else, look-blank, look-filled}
-use Rattle.theory.specs.Bus
+use Rattle.theory.specs.Protocol
 
 pub record State : Type 0 where
   pub memory : ℕ → ℕ
@@ -108,10 +108,10 @@ module _ (E : ℕ) (home : ℕ → ℕ) where
 
     -- a NORMAL entry is freed
     pub normal-out : {s : LineState} {u d : ℕ} → y ≡ vacant → w ≡ u → S .slot p i ≡ slotNormal s u d → S′ .memory u ≡ wrote s d (S .memory u)
-        → AllTidy S′ × Bus.Freed p (view S) (view S′)
+        → AllTidy S′ × Protocol.Freed p (view S) (view S′)
     normal-out {s} {u} {d} ey ew was m = (
       T′,
-      Bus.normal-freed u (rw ew at (at-slot T′ was (sym ew) (rw ey tt))) (look-normal E home (S .slot p) (S .line p) (T p) i l was)
+      Protocol.normal-freed u (rw ew at (at-slot T′ was (sym ew) (rw ey tt))) (look-normal E home (S .slot p) (S .line p) (T p) i l was)
           (rw same-lines (look-out E home (S .slot p) (S′ .slot p) (S .line p) (T p) i l (c .else) was (c .here ∙ ey))) m,
     )
       where
@@ -133,10 +133,10 @@ module _ (E : ℕ) (home : ℕ → ℕ) where
 
     -- a backup is freed
     pub backup-out : {s : LineState} {u d : ℕ} → y ≡ vacant → w ≡ u → S .slot p i ≡ slotBackup s u d → S′ .memory u ≡ wrote s d (S .memory u)
-        → AllTidy S′ × Bus.Freed p (view S) (view S′)
+        → AllTidy S′ × Protocol.Freed p (view S) (view S′)
     backup-out {s} {u} {d} ey ew was m =
         let b = look-backout E home (S .slot p) (S′ .slot p) (S .line p) (T p) i l (c .else) was (c .here ∙ ey) in
-        (T′, Bus.backup-freed u (rw ew at (at-slot T′ was (sym ew) (rw ey tt))) (b .3) (rw same-lines (b .4)) m)
+        (T′, Protocol.backup-freed u (rw ew at (at-slot T′ was (sym ew) (rw ey tt))) (b .3) (rw same-lines (b .4)) m)
       where
         T′ : AllTidy S′
         T′ = tidy-local T (slot-local c)
@@ -210,7 +210,7 @@ module _ (E : ℕ) (home : ℕ → ℕ) where
       }
 
   pub rolled-back : {S S′ : State} (p : ℕ) → AllTidy S → SlotMap slotRollback p S S′ → S′ .active p ≡ S .active p → S′ .status p ≡ false
-      → AllTidy S′ × Bus.RolledBack p (view S) (view S′)
+      → AllTidy S′ × Protocol.RolledBack p (view S) (view S′)
   rolled-back {S} {S′} p T c a s = (
     T′,
     record {

@@ -3,4 +3,4 @@ pub mod Log
 pub mod Plain
 pub mod View
 pub mod Change
-pub mod Bus
+pub mod Protocol

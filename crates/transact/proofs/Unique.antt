@@ -6,7 +6,7 @@ use borrow.Fn.World.{ArgsD, ResD}
 use borrow.Fn.Kinds.{endedOf}
 use denote.Triple.Clauses.{AtExit}
 use denote.Ref.{now}
-use Rattle.machine.specs.State.{caches, outcome}
+use Rattle.rules.specs.State.{caches, outcome}
 use Rattle.transact.proofs.transact as transact
 use Rattle.transact.proofs.transact.Kinds as transact-kinds
 use Rattle.transact.proofs.transact.Reads as transact-reads

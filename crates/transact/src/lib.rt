@@ -13,10 +13,10 @@ use entry::numbers::T_READ;
 use entry::numbers::T_RFO;
 use entry::numbers::TENTATIVE;
 use entry::numbers::VALID;
-use machine::Copies;
-use machine::Dims;
-use machine::Flags;
-use machine::Memory;
+use rules::Copies;
+use rules::Dims;
+use rules::Flags;
+use rules::Memory;
 ghost use mathlib.Core.Path.{_≡_};
 ghost use mathlib.Core.List.{List};
 ghost use Prim.Native.Nat.{ℕ, _+_};
@@ -25,9 +25,9 @@ ghost use Rattle.laws.specs.Choice.{pick};
 ghost use Rattle.entry.specs.declared.answer.Answer.the-variants.{Aborted};
 ghost use Rattle.entry.specs.Numbers.{VALID, RESERVED, DIRTY, LT, T-RFO};
 ghost use Rattle.entry.specs.Answer.{answered, asked, quiet};
-ghost use Rattle.machine.specs.State.{caches, outcome, counted};
-ghost use Rattle.machine.specs.Transact.{dropLine, finish, requestOf, hit, openNormal, clearBackup, fillBackup, fill, request, missAt, miss, seek, transact};
-ghost use Rattle.machine.specs.Lent.{before, after, lent, returned};
+ghost use Rattle.rules.specs.State.{caches, outcome, counted};
+ghost use Rattle.rules.specs.Transact.{dropLine, finish, requestOf, hit, openNormal, clearBackup, fillBackup, fill, request, missAt, miss, seek, transact};
+ghost use Rattle.rules.specs.Lent.{before, after, lent, returned};
 
 fn quiet_counts(w: u32) -> Counts
     ensures { λ r. ⌜ r ≡ quiet w ⌝ }

@@ -1,7 +1,7 @@
 // A job's first part: 22 numbers of eight bytes.
 
 use crate::numbers::eight_at;
-use machine::Dims;
+use rules::Dims;
 ghost use Prim.Native.Nat.{_<_, _≤_};
 ghost use Rattle.io.specs.Counts.{Counts};
 

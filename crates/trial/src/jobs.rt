@@ -16,7 +16,7 @@ use crate::telling::no_counts;
 use crate::telling::tell;
 use crate::telling::told_answer;
 use crate::telling::told_nothing;
-use machine::Machine;
+use rules::Machine;
 
 pub(crate) fn answer_job(head: &[u8; 176], m: Machine) {
     match field(head, head::KIND) {
@@ -40,7 +40,7 @@ fn make(head: &[u8; 176], m: Machine) {
     let d = m.dims;
     let memory = m.memory;
     let n = lent_words(field(head, head::MEMORY_LENGTH), &memory);
-    let made = bus::make(d.processors, d.words, d.lines, d.entries, &memory[..n]);
+    let made = machine::make(d.processors, d.words, d.lines, d.entries, &memory[..n]);
     let mut told = told_nothing();
     told.refusal = made.refusal;
     tell(told, made.machine);
@@ -49,19 +49,19 @@ fn make(head: &[u8; 176], m: Machine) {
 
 fn sound(m: Machine) {
     let mut told = told_nothing();
-    told.holds = bus::sound(m);
+    told.holds = machine::sound(m);
     tell(told, m);
     pass_columns();
 }
 
 fn settled(head: &[u8; 176], m: Machine) {
-    let answer = bus::settled(m, low_word(field(head, head::WORD)));
+    let answer = machine::settled(m, low_word(field(head, head::WORD)));
     tell(told_answer(answer, no_counts()), m);
     pass_columns();
 }
 
 fn step(head: &[u8; 176], m: Machine) {
-    let stepped = bus::step(
+    let stepped = machine::step(
         m,
         low_byte(field(head, head::STEP)),
         low_byte(field(head, head::CORE)),

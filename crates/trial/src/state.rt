@@ -7,11 +7,11 @@ use crate::numbers::low_word;
 use crate::numbers::wide_word;
 use libc::STDIN_FILENO;
 use libc::STDOUT_FILENO;
-use machine::Copies;
-use machine::Dims;
-use machine::Flags;
-use machine::Machine;
-use machine::Memory;
+use rules::Copies;
+use rules::Dims;
+use rules::Flags;
+use rules::Machine;
+use rules::Memory;
 
 fn read_memory() -> Memory {
     let mut bytes = [0u8; 1024];

@@ -5,7 +5,7 @@ use crate::state::write_machine;
 use entry::answer::Answer;
 use entry::answer::Counts;
 use libc::STDOUT_FILENO;
-use machine::Machine;
+use rules::Machine;
 
 // What a function of the machine handed back beside a state. What it does not hand back is 0.
 pub(crate) struct Told {

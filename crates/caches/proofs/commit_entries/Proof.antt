@@ -3,8 +3,8 @@ use mathlib.Core.Path.{_≡_, _∙_, sym}
 use native.Mathlib.Nat.{sub-zero}
 use Rattle.laws.specs.Places.{applyFrom, apply-end, apply-turn}
 use Rattle.entry.specs.Entry.{committed}
-use Rattle.machine.specs.State.{place}
-use Rattle.machine.specs.Rollback.{repacked, committedEntries}
+use Rattle.rules.specs.State.{place}
+use Rattle.rules.specs.Rollback.{repacked, committedEntries}
 use borrow.Author.Needs.{needs}
 use Rattle.caches.proofs.commit_entries.Statement.{statement}
 use Rattle.caches.proofs.commit_entries.Tie as tie

@@ -1,7 +1,7 @@
 use Prim.Native.Nat.{_+_, _*_, _-_, _%_}
 use mathlib.Core.Path.{_≡_, _∙_, sym}
 use denote.Ref.{now}
-use Rattle.machine.specs.Own.{hasEntry, findEntry}
+use Rattle.rules.specs.Own.{hasEntry, findEntry}
 use Rattle.caches.proofs.Round.{searched, searched-on, searched-next, round-hit, round-end}
 use Rattle.caches.proofs.Words.{no-entry, entry-round}
 use borrow.Author.Needs.{needs}

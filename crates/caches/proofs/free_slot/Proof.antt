@@ -3,7 +3,7 @@ use native.Mathlib.Omega.{arith}
 use borrow.Author.Tests.{lt-ltb, le-ltb}
 use lib.Dec.{eqb}
 use Rattle.laws.specs.Choice.{both-not}
-use Rattle.machine.specs.Own.{freeSlot}
+use Rattle.rules.specs.Own.{freeSlot}
 use borrow.Author.Needs.{needs}
 use Rattle.caches.proofs.free_slot.Statement.{statement}
 use Rattle.caches.proofs.free_slot.Tie as tie

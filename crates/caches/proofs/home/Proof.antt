@@ -1,6 +1,6 @@
 use native.Mathlib.Nat.{mod-zero}
 use mathlib.Core.Path.{sym}
-use Rattle.machine.specs.Own.{home}
+use Rattle.rules.specs.Own.{home}
 use borrow.Author.Needs.{needs}
 use Rattle.caches.proofs.home.Statement.{statement}
 use Rattle.caches.proofs.home.Tie as tie

@@ -2,7 +2,7 @@ use Prim.Native.Nat.{_+_, _*_, _-_, _%_}
 use mathlib.Core.Path.{_≡_, _∙_, sym}
 use native.Mathlib.Omega.{arith}
 use denote.Ref.{now}
-use Rattle.machine.specs.Own.{hasLive, liveEntry}
+use Rattle.rules.specs.Own.{hasLive, liveEntry}
 use Rattle.caches.proofs.Round.{searched, searched-on, searched-next, round-hit, round-end}
 use Rattle.caches.proofs.Words.{no-live, live-round}
 use borrow.Author.Needs.{needs}

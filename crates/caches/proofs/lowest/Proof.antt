@@ -6,7 +6,7 @@ use borrow.Author.Tests.{eq-eqb, ne-eqb}
 use mathlib.Core.Logic.{⊎-elim}
 use denote.Ref.{now}
 use Rattle.laws.specs.Search.{none-of}
-use Rattle.machine.specs.Own.{isFree, lowest}
+use Rattle.rules.specs.Own.{isFree, lowest}
 use Rattle.caches.proofs.Round.{none-next, first-at}
 use borrow.Author.Needs.{needs}
 use Rattle.caches.proofs.lowest.Statement.{statement}

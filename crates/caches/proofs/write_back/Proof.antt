@@ -1,5 +1,5 @@
 use borrow.Author.Tests.{eq-eqb, ne-eqb}
-use Rattle.machine.specs.Bus.{writtenBack, writes}
+use Rattle.rules.specs.Snoop.{writtenBack, writes}
 use borrow.Author.Needs.{needs}
 use Rattle.caches.proofs.write_back.Statement.{statement}
 use Rattle.caches.proofs.write_back.Tie as tie

@@ -1,5 +1,5 @@
 use borrow.Author.Tests.{lt-ltb, le-ltb}
-use Rattle.machine.specs.Store.{dropNormal}
+use Rattle.rules.specs.Store.{dropNormal}
 use borrow.Author.Needs.{needs}
 use Rattle.plain.proofs.drop_normal.Statement.{statement}
 use Rattle.plain.proofs.drop_normal.Tie as tie

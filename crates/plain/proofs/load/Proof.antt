@@ -1,7 +1,7 @@
 use mathlib.Core.Path.{sym}
 use Rattle.caches.proofs.Live.{tentative-own, normal-own}
 use borrow.Author.Tests.{eq-eqb, ne-eqb, not-true, not-false}
-use Rattle.machine.specs.Load.{load}
+use Rattle.rules.specs.Load.{load}
 use borrow.Author.Needs.{needs}
 use Rattle.plain.proofs.load.Statement.{statement}
 use Rattle.plain.proofs.load.Tie as tie

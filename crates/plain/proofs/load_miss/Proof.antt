@@ -1,4 +1,4 @@
-use Rattle.machine.specs.Load.{loadMiss}
+use Rattle.rules.specs.Load.{loadMiss}
 use borrow.Author.Needs.{needs}
 use Rattle.plain.proofs.load_miss.Statement.{statement}
 use Rattle.plain.proofs.load_miss.Tie as tie

@@ -1,5 +1,5 @@
 use borrow.Author.Tests.{lt-ltb, le-ltb}
-use Rattle.machine.specs.Load.{loadOn}
+use Rattle.rules.specs.Load.{loadOn}
 use borrow.Author.Needs.{needs}
 use Rattle.plain.proofs.load_on.Statement.{statement}
 use Rattle.plain.proofs.load_on.Tie as tie

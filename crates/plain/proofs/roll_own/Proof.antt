@@ -1,6 +1,6 @@
 use mathlib.Core.Path.{sym}
 use Rattle.caches.proofs.Live.{tentative-own, normal-own}
-use Rattle.machine.specs.Store.{rollOwn}
+use Rattle.rules.specs.Store.{rollOwn}
 use borrow.Author.Needs.{needs}
 use Rattle.plain.proofs.roll_own.Statement.{statement}
 use Rattle.plain.proofs.roll_own.Tie as tie

@@ -1,4 +1,4 @@
-use Rattle.machine.specs.Store.{store}
+use Rattle.rules.specs.Store.{store}
 use borrow.Author.Needs.{needs}
 use Rattle.plain.proofs.store.Statement.{statement}
 use Rattle.plain.proofs.store.Tie as tie

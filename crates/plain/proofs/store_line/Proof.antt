@@ -1,5 +1,5 @@
 use borrow.Author.Tests.{eq-eqb, ne-eqb}
-use Rattle.machine.specs.Store.{storeLine}
+use Rattle.rules.specs.Store.{storeLine}
 use borrow.Author.Needs.{needs}
 use Rattle.plain.proofs.store_line.Statement.{statement}
 use Rattle.plain.proofs.store_line.Tie as tie

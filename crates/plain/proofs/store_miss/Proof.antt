@@ -1,4 +1,4 @@
-use Rattle.machine.specs.Store.{storeMiss}
+use Rattle.rules.specs.Store.{storeMiss}
 use borrow.Author.Needs.{needs}
 use Rattle.plain.proofs.store_miss.Statement.{statement}
 use Rattle.plain.proofs.store_miss.Tie as tie

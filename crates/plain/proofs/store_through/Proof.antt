@@ -1,4 +1,4 @@
-use Rattle.machine.specs.Store.{storeThrough}
+use Rattle.rules.specs.Store.{storeThrough}
 use borrow.Author.Needs.{needs}
 use Rattle.plain.proofs.store_through.Statement.{statement}
 use Rattle.plain.proofs.store_through.Tie as tie

@@ -1,4 +1,4 @@
-use Rattle.machine.specs.Run.{columnsOk}
+use Rattle.rules.specs.Run.{columnsOk}
 use borrow.Author.Needs.{needs}
 use Rattle.runs.proofs.columns_ok.Statement.{statement}
 use Rattle.runs.proofs.columns_ok.Tie as tie

@@ -5,7 +5,7 @@ use native.Mathlib.Nat.{sub-zero}
 use native.Mathlib.Omega.{arith}
 use denote.Ref.{now}
 use Rattle.laws.specs.Search.{firstFrom, first-end, first-hit, first-miss}
-use Rattle.machine.specs.Bus.{otherOpposes, firstOpposing}
+use Rattle.rules.specs.Snoop.{otherOpposes, firstOpposing}
 use Rattle.snoop.specs.Firsts.{noted}
 use Rattle.snoop.proofs.Apart.{note}
 use borrow.Author.Needs.{needs}

@@ -1,7 +1,7 @@
 use native.Mathlib.Omega.{arith}
 use borrow.Author.Tests.{lt-ltb, le-ltb, leb-true}
 use mathlib.Core.Path.{refl, _∙_, sym}
-use Rattle.machine.specs.Bus.{refuses}
+use Rattle.rules.specs.Snoop.{refuses}
 use borrow.Author.Needs.{needs}
 use Rattle.snoop.proofs.request.Statement.{statement}
 use Rattle.snoop.proofs.request.Tie as tie

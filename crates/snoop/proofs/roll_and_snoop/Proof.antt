@@ -2,7 +2,7 @@ use Prim.Native.Nat.{_≤_, _-_}
 use mathlib.Core.Path.{_≡_, refl, _∙_, sym}
 use native.Mathlib.Nat.{sub-zero}
 use Rattle.laws.specs.Fold.{foldRange, fold-end, fold-turn}
-use Rattle.machine.specs.State.{caches}
+use Rattle.rules.specs.State.{caches}
 use Rattle.snoop.proofs.Together.{rollAndSnoop, plain-together}
 use borrow.Author.Needs.{needs}
 use Rattle.snoop.proofs.roll_and_snoop.Statement.{statement}

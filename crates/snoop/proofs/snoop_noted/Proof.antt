@@ -5,8 +5,8 @@ use native.Mathlib.Nat.{sub-zero}
 use native.Mathlib.Omega.{arith}
 use denote.Ref.{now}
 use Rattle.laws.specs.Fold.{foldRange, fold-end, fold-turn}
-use Rattle.machine.specs.State.{caches}
-use Rattle.machine.specs.Bus.{snoopOne, snoop}
+use Rattle.rules.specs.State.{caches}
+use Rattle.rules.specs.Snoop.{snoopOne, snoop}
 use Rattle.snoop.proofs.Apart.{left, snooped-left}
 use borrow.Author.Needs.{needs}
 use Rattle.snoop.proofs.snoop_noted.Statement.{statement}

@@ -1,5 +1,5 @@
 use borrow.Author.Tests.{not-true, not-false}
-use Rattle.machine.specs.SoundTest.{copiesOk}
+use Rattle.rules.specs.SoundTest.{copiesOk}
 use borrow.Author.Needs.{needs}
 use Rattle.sound.proofs.copies_ok.Statement.{statement}
 use Rattle.sound.proofs.copies_ok.Tie as tie

@@ -1,6 +1,6 @@
 use borrow.Author.Tests.{eq-eqb, ne-eqb}
 use borrow.Author.Tests.{not-true, not-false}
-use Rattle.machine.specs.SoundTest.{soundOf}
+use Rattle.rules.specs.SoundTest.{soundOf}
 use borrow.Author.Needs.{needs}
 use Rattle.sound.proofs.sound.Statement.{statement}
 use Rattle.sound.proofs.sound.Tie as tie

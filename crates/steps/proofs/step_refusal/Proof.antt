@@ -1,5 +1,5 @@
 use borrow.Author.Tests.{lt-ltb, le-ltb, le-leb, lt-leb}
-use Rattle.machine.specs.Step.{stepRefusal}
+use Rattle.rules.specs.Step.{stepRefusal}
 use Rattle.steps.proofs.step_refusal.Statement.{statement}
 use Rattle.steps.proofs.step_refusal.Tie as tie
 

@@ -1,7 +1,7 @@
 use mathlib.Core.Logic.{⊎-elim}
 use borrow.Author.Tests.{ne-eqb}
-use Rattle.machine.specs.Ends.{commit, abort, validate, interrupt}
-use Rattle.machine.specs.Step.{takeStep}
+use Rattle.rules.specs.Ends.{commit, abort, validate, interrupt}
+use Rattle.rules.specs.Step.{takeStep}
 use borrow.Author.Needs.{needs}
 use Rattle.steps.proofs.take_step.Statement.{statement}
 use Rattle.steps.proofs.take_step.Tie as tie

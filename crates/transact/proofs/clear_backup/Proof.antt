@@ -1,5 +1,5 @@
 use borrow.Author.Tests.{lt-ltb, le-ltb}
-use Rattle.machine.specs.Transact.{clearBackup}
+use Rattle.rules.specs.Transact.{clearBackup}
 use borrow.Author.Needs.{needs}
 use Rattle.transact.proofs.clear_backup.Statement.{statement}
 use Rattle.transact.proofs.clear_backup.Tie as tie

@@ -1,4 +1,4 @@
-use Rattle.machine.specs.Transact.{dropLine}
+use Rattle.rules.specs.Transact.{dropLine}
 use borrow.Author.Needs.{needs}
 use Rattle.transact.proofs.drop_line.Statement.{statement}
 use Rattle.transact.proofs.drop_line.Tie as tie

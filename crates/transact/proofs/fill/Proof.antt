@@ -1,4 +1,4 @@
-use Rattle.machine.specs.Transact.{finish, fill}
+use Rattle.rules.specs.Transact.{finish, fill}
 use borrow.Author.Needs.{needs}
 use Rattle.transact.proofs.fill.Statement.{statement}
 use Rattle.transact.proofs.fill.Tie as tie

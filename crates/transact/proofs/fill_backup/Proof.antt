@@ -1,5 +1,5 @@
 use borrow.Author.Tests.{lt-ltb, le-ltb}
-use Rattle.machine.specs.Transact.{fillBackup}
+use Rattle.rules.specs.Transact.{fillBackup}
 use borrow.Author.Needs.{needs}
 use Rattle.transact.proofs.fill_backup.Statement.{statement}
 use Rattle.transact.proofs.fill_backup.Tie as tie

@@ -1,5 +1,5 @@
 use borrow.Author.Tests.{eq-eqb, ne-eqb}
-use Rattle.machine.specs.Transact.{finish}
+use Rattle.rules.specs.Transact.{finish}
 use borrow.Author.Needs.{needs}
 use Rattle.transact.proofs.finish.Statement.{statement}
 use Rattle.transact.proofs.finish.Tie as tie

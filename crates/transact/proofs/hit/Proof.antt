@@ -2,8 +2,8 @@ use mathlib.Core.Path.{ap}
 use mathlib.Core.List.{[]}
 use borrow.Author.Tests.{eq-eqb, ne-eqb}
 use denote.Ref.{now}
-use Rattle.machine.specs.State.{Caches}
-use Rattle.machine.specs.Transact.{finish, hit}
+use Rattle.rules.specs.State.{Caches}
+use Rattle.rules.specs.Transact.{finish, hit}
 use Rattle.transact.proofs.Asked.{refused, passed}
 use borrow.Author.Needs.{needs}
 use Rattle.transact.proofs.hit.Statement.{statement}

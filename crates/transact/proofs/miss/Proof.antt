@@ -1,5 +1,5 @@
 use borrow.Author.Tests.{lt-ltb, le-ltb}
-use Rattle.machine.specs.Transact.{miss}
+use Rattle.rules.specs.Transact.{miss}
 use borrow.Author.Needs.{needs}
 use Rattle.transact.proofs.miss.Statement.{statement}
 use Rattle.transact.proofs.miss.Tie as tie

@@ -1,4 +1,4 @@
-use Rattle.machine.specs.Transact.{request, missAt}
+use Rattle.rules.specs.Transact.{request, missAt}
 use borrow.Author.Needs.{needs}
 use Rattle.transact.proofs.miss_at.Statement.{statement}
 use Rattle.transact.proofs.miss_at.Tie as tie

@@ -1,5 +1,5 @@
 use borrow.Author.Tests.{lt-ltb, le-ltb}
-use Rattle.machine.specs.Transact.{openNormal}
+use Rattle.rules.specs.Transact.{openNormal}
 use borrow.Author.Needs.{needs}
 use Rattle.transact.proofs.open_normal.Statement.{statement}
 use Rattle.transact.proofs.open_normal.Tie as tie

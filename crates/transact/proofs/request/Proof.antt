@@ -1,8 +1,8 @@
 use mathlib.Core.Path.{ap}
 use mathlib.Core.List.{[]}
 use denote.Ref.{now}
-use Rattle.machine.specs.State.{Caches}
-use Rattle.machine.specs.Transact.{fill, request}
+use Rattle.rules.specs.State.{Caches}
+use Rattle.rules.specs.Transact.{fill, request}
 use Rattle.transact.proofs.Asked.{refused, passed}
 use borrow.Author.Needs.{needs}
 use Rattle.transact.proofs.request.Statement.{statement}

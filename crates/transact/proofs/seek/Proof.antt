@@ -1,6 +1,6 @@
 use Rattle.caches.proofs.Live.{tentative-own, normal-own}
 use borrow.Author.Tests.{lt-ltb, le-ltb}
-use Rattle.machine.specs.Transact.{hit, miss, seek}
+use Rattle.rules.specs.Transact.{hit, miss, seek}
 use borrow.Author.Needs.{needs}
 use Rattle.transact.proofs.seek.Statement.{statement}
 use Rattle.transact.proofs.seek.Tie as tie

@@ -1,5 +1,5 @@
 use borrow.Author.Tests.{eq-eqb, ne-eqb}
-use Rattle.machine.specs.Transact.{seek, transact}
+use Rattle.rules.specs.Transact.{seek, transact}
 use borrow.Author.Needs.{needs}
 use Rattle.transact.proofs.transact.Statement.{statement}
 use Rattle.transact.proofs.transact.Tie as tie

@@ -1,7 +1,7 @@
 use mathlib.Core.Path.{_≡_, refl, _∙_}
 use borrow.Author.Tests.{leb-true}
 use lib.ListN.{length}
-use Rattle.machine.specs.State.{caches}
+use Rattle.rules.specs.State.{caches}
 use Rattle.listing.specs.Pieces.{carried}
 use Rattle.listing.specs.Listing.{going, linesLeft, fillOf}
 use Rattle.listing.proofs.Doing.{no-room, some-room, fillFrom, fill-starts, ended-lines, ended-room, went-on, less}

@@ -1,5 +1,5 @@
 use mathlib.Core.Path.{_∙_}
-use Rattle.bus.proofs.Words.{low-word}
+use Rattle.machine.proofs.Words.{low-word}
 use borrow.Author.Needs.{needs}
 use Rattle.runs.proofs.running.one_step.Statement.{statement}
 use Rattle.runs.proofs.running.one_step.Tie as tie

@@ -5,8 +5,8 @@ use native.Mathlib.Nat.{sub-zero}
 use native.Mathlib.Omega.{arith}
 use Rattle.laws.specs.Until.{untilRange}
 use lib.ListN.{length}
-use Rattle.machine.specs.State.{caches}
-use Rattle.machine.specs.Run.{steps, columns, carried, stopsAt, turn, runSound}
+use Rattle.rules.specs.State.{caches}
+use Rattle.rules.specs.Run.{steps, columns, carried, stopsAt, turn, runSound}
 use borrow.Author.Needs.{needs}
 use Rattle.runs.proofs.running.run_sound.Statement.{statement}
 use Rattle.runs.proofs.running.run_sound.Tie as tie

@@ -1,4 +1,4 @@
-use Rattle.machine.specs.Bus.{plainRequest}
+use Rattle.rules.specs.Snoop.{plainRequest}
 use borrow.Author.Needs.{needs}
 use Rattle.snoop.proofs.many.plain_request.Statement.{statement}
 use Rattle.snoop.proofs.many.plain_request.Tie as tie

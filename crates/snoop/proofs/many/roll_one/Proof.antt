@@ -1,4 +1,4 @@
-use Rattle.machine.specs.Bus.{rollOne}
+use Rattle.rules.specs.Snoop.{rollOne}
 use borrow.Author.Needs.{needs}
 use Rattle.snoop.proofs.many.roll_one.Statement.{statement}
 use Rattle.snoop.proofs.many.roll_one.Tie as tie

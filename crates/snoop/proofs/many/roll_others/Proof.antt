@@ -3,8 +3,8 @@ use mathlib.Core.Path.{_≡_, refl, _∙_, sym}
 use mathlib.Core.List.{List}
 use native.Mathlib.Nat.{sub-zero}
 use Rattle.laws.specs.Fold.{foldRange, fold-end, fold-turn}
-use Rattle.machine.specs.State.{caches}
-use Rattle.machine.specs.Bus.{rollOne, rollOthers}
+use Rattle.rules.specs.State.{caches}
+use Rattle.rules.specs.Snoop.{rollOne, rollOthers}
 use borrow.Author.Needs.{needs}
 use Rattle.snoop.proofs.many.roll_others.Statement.{statement}
 use Rattle.snoop.proofs.many.roll_others.Tie as tie

@@ -3,8 +3,8 @@ use mathlib.Core.Path.{_≡_, refl, _∙_, sym}
 use mathlib.Core.List.{List}
 use native.Mathlib.Nat.{sub-zero}
 use Rattle.laws.specs.Fold.{foldRange, fold-end, fold-turn}
-use Rattle.machine.specs.State.{caches}
-use Rattle.machine.specs.Bus.{snoopOne, snoop}
+use Rattle.rules.specs.State.{caches}
+use Rattle.rules.specs.Snoop.{snoopOne, snoop}
 use borrow.Author.Needs.{needs}
 use Rattle.snoop.proofs.many.snoop.Statement.{statement}
 use Rattle.snoop.proofs.many.snoop.Tie as tie

@@ -1,5 +1,5 @@
 use borrow.Author.Tests.{eq-eqb, ne-eqb}
-use Rattle.machine.specs.Bus.{snoopOne}
+use Rattle.rules.specs.Snoop.{snoopOne}
 use borrow.Author.Needs.{needs}
 use Rattle.snoop.proofs.many.snoop_one.Statement.{statement}
 use Rattle.snoop.proofs.many.snoop_one.Tie as tie

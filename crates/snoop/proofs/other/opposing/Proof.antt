@@ -1,5 +1,5 @@
 use borrow.Author.Tests.{lt-ltb, le-ltb}
-use Rattle.machine.specs.Bus.{opposes}
+use Rattle.rules.specs.Snoop.{opposes}
 use borrow.Author.Needs.{needs}
 use Rattle.snoop.proofs.other.opposing.Statement.{statement}
 use Rattle.snoop.proofs.other.opposing.Tie as tie

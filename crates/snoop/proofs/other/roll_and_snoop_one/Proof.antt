@@ -1,6 +1,6 @@
 use borrow.Author.Tests.{eq-eqb, ne-eqb}
 use mathlib.Core.Path.{_∙_}
-use Rattle.machine.specs.Bus.{snoopOne, rollOne}
+use Rattle.rules.specs.Snoop.{snoopOne, rollOne}
 use Rattle.snoop.proofs.Firsts.{first-other}
 use borrow.Author.Needs.{needs}
 use Rattle.snoop.proofs.other.roll_and_snoop_one.Statement.{statement}

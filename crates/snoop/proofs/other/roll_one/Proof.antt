@@ -1,4 +1,4 @@
-use Rattle.machine.specs.Bus.{rollOne}
+use Rattle.rules.specs.Snoop.{rollOne}
 use Rattle.snoop.proofs.Firsts.{none-opposes}
 use borrow.Author.Needs.{needs}
 use Rattle.snoop.proofs.other.roll_one.Statement.{statement}

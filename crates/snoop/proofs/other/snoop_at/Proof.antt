@@ -1,6 +1,6 @@
 use borrow.Author.Tests.{eq-eqb, ne-eqb}
 use mathlib.Core.Path.{_∙_}
-use Rattle.machine.specs.Bus.{snoopOne}
+use Rattle.rules.specs.Snoop.{snoopOne}
 use Rattle.snoop.proofs.Firsts.{first-other}
 use borrow.Author.Needs.{needs}
 use Rattle.snoop.proofs.other.snoop_at.Statement.{statement}

@@ -1,5 +1,5 @@
 use borrow.Author.Tests.{lt-ltb, le-ltb}
-use Rattle.machine.specs.Bus.{snoopEntry}
+use Rattle.rules.specs.Snoop.{snoopEntry}
 use borrow.Author.Needs.{needs}
 use Rattle.snoop.proofs.other.snoop_entry.Statement.{statement}
 use Rattle.snoop.proofs.other.snoop_entry.Tie as tie

@@ -1,4 +1,4 @@
-use Rattle.machine.specs.Bus.{snoopLine}
+use Rattle.rules.specs.Snoop.{snoopLine}
 use borrow.Author.Needs.{needs}
 use Rattle.snoop.proofs.other.snoop_line.Statement.{statement}
 use Rattle.snoop.proofs.other.snoop_line.Tie as tie

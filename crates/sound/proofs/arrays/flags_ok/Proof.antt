@@ -4,7 +4,7 @@ use Prim.Native.Nat.{_≤_, _-_}
 use native.Mathlib.Omega.{arith}
 use Rattle.laws.specs.Search.{firstFrom, first-miss}
 use Rattle.sound.proofs.Every.{every-stopped, every-ended}
-use Rattle.machine.specs.SoundTest.{badFlag, flagsOk}
+use Rattle.rules.specs.SoundTest.{badFlag, flagsOk}
 use borrow.Author.Needs.{needs}
 use Rattle.sound.proofs.arrays.flags_ok.Statement.{statement}
 use Rattle.sound.proofs.arrays.flags_ok.Tie as tie

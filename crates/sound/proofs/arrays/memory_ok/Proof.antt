@@ -3,7 +3,7 @@ use mathlib.Core.Path.{_≡_, refl, _∙_, sym}
 use Prim.Native.Nat.{_-_}
 use Rattle.laws.specs.Search.{firstFrom, first-miss}
 use Rattle.sound.proofs.Every.{every-stopped, every-ended}
-use Rattle.machine.specs.SoundTest.{badWord, memoryOk}
+use Rattle.rules.specs.SoundTest.{badWord, memoryOk}
 use borrow.Author.Needs.{needs}
 use Rattle.sound.proofs.arrays.memory_ok.Statement.{statement}
 use Rattle.sound.proofs.arrays.memory_ok.Tie as tie

@@ -1,5 +1,5 @@
 use borrow.Author.Tests.{lt-ltb, le-ltb, not-true, not-false}
-use Rattle.machine.specs.SoundTest.{copyOk}
+use Rattle.rules.specs.SoundTest.{copyOk}
 use borrow.Author.Needs.{needs}
 use Rattle.sound.proofs.copies.copy_ok.Statement.{statement}
 use Rattle.sound.proofs.copies.copy_ok.Tie as tie

@@ -1,5 +1,5 @@
 use borrow.Author.Tests.{not-true, not-false}
-use Rattle.machine.specs.Making.{dimsRefusal}
+use Rattle.rules.specs.Making.{dimsRefusal}
 use borrow.Author.Needs.{needs}
 use Rattle.sound.proofs.dims.dims_refusal.Statement.{statement}
 use Rattle.sound.proofs.dims.dims_refusal.Tie as tie

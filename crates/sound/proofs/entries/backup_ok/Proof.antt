@@ -1,5 +1,5 @@
 use borrow.Author.Tests.{ne-eqb, eq-eqb}
-use Rattle.machine.specs.SoundTest.{backupOk}
+use Rattle.rules.specs.SoundTest.{backupOk}
 use borrow.Author.Needs.{needs}
 use Rattle.sound.proofs.entries.backup_ok.Statement.{statement}
 use Rattle.sound.proofs.entries.backup_ok.Tie as tie

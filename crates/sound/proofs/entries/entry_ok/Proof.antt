@@ -1,6 +1,6 @@
 use borrow.Author.Tests.{ne-eqb, eq-eqb, lt-ltb, le-ltb, not-true, not-false}
 use Rattle.sound.proofs.Codes.{comes-back, comes-not}
-use Rattle.machine.specs.SoundTest.{entryOk}
+use Rattle.rules.specs.SoundTest.{entryOk}
 use borrow.Author.Needs.{needs}
 use Rattle.sound.proofs.entries.entry_ok.Statement.{statement}
 use Rattle.sound.proofs.entries.entry_ok.Tie as tie

@@ -1,5 +1,5 @@
 use borrow.Author.Tests.{ne-eqb, eq-eqb}
-use Rattle.machine.specs.SoundTest.{flagsUp}
+use Rattle.rules.specs.SoundTest.{flagsUp}
 use borrow.Author.Needs.{needs}
 use Rattle.sound.proofs.entries.flags_up.Statement.{statement}
 use Rattle.sound.proofs.entries.flags_up.Tie as tie

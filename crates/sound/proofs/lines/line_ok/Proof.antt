@@ -1,6 +1,6 @@
 use borrow.Author.Tests.{ne-eqb, eq-eqb, lt-ltb, le-ltb}
 use Rattle.sound.proofs.Codes.{comes-back, comes-not}
-use Rattle.machine.specs.SoundTest.{isHome, lineOk}
+use Rattle.rules.specs.SoundTest.{isHome, lineOk}
 use borrow.Author.Needs.{needs}
 use Rattle.sound.proofs.lines.line_ok.Statement.{statement}
 use Rattle.sound.proofs.lines.line_ok.Tie as tie

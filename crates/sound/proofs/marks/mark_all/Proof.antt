@@ -1,7 +1,7 @@
 use mathlib.Core.Path.{_≡_, refl, _∙_, sym}
 use Prim.Native.Nat.{_≤_, _-_}
 use Rattle.laws.specs.Fold.{foldRange, fold-end, fold-turn}
-use Rattle.machine.specs.SoundTest.{markTurn, markAll}
+use Rattle.rules.specs.SoundTest.{markTurn, markAll}
 use borrow.Author.Needs.{needs}
 use Rattle.sound.proofs.marks.mark_all.Statement.{statement}
 use Rattle.sound.proofs.marks.mark_all.Tie as tie

@@ -1,7 +1,7 @@
 use mathlib.Core.Path.{_≡_, refl, _∙_, sym}
 use Prim.Native.Nat.{_≤_, _-_}
 use Rattle.laws.specs.Fold.{foldRange, fold-end, fold-turn}
-use Rattle.machine.specs.SoundTest.{ownTurn, ownAll}
+use Rattle.rules.specs.SoundTest.{ownTurn, ownAll}
 use borrow.Author.Needs.{needs}
 use Rattle.sound.proofs.owners.own_all.Statement.{statement}
 use Rattle.sound.proofs.owners.own_all.Tie as tie

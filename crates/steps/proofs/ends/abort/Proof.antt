@@ -1,4 +1,4 @@
-use Rattle.machine.specs.Ends.{abort}
+use Rattle.rules.specs.Ends.{abort}
 use borrow.Author.Needs.{needs}
 use Rattle.steps.proofs.ends.abort.Statement.{statement}
 use Rattle.steps.proofs.ends.abort.Tie as tie

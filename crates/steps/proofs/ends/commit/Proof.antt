@@ -1,5 +1,5 @@
 use borrow.Author.Tests.{eq-eqb, ne-eqb}
-use Rattle.machine.specs.Ends.{commit}
+use Rattle.rules.specs.Ends.{commit}
 use borrow.Author.Needs.{needs}
 use Rattle.steps.proofs.ends.commit.Statement.{statement}
 use Rattle.steps.proofs.ends.commit.Tie as tie

@@ -1,4 +1,4 @@
-use Rattle.machine.specs.Ends.{interrupt}
+use Rattle.rules.specs.Ends.{interrupt}
 use borrow.Author.Needs.{needs}
 use Rattle.steps.proofs.ends.interrupt.Statement.{statement}
 use Rattle.steps.proofs.ends.interrupt.Tie as tie

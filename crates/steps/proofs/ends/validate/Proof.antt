@@ -1,5 +1,5 @@
 use borrow.Author.Tests.{eq-eqb, ne-eqb}
-use Rattle.machine.specs.Ends.{validate}
+use Rattle.rules.specs.Ends.{validate}
 use borrow.Author.Needs.{needs}
 use Rattle.steps.proofs.ends.validate.Statement.{statement}
 use Rattle.steps.proofs.ends.validate.Tie as tie

@@ -1,3 +1,0 @@
-pub mod Padding
-pub mod Words
-pub mod Unique

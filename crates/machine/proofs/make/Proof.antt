@@ -1,0 +1,38 @@
+use mathlib.Core.Path.{_∙_, sym}
+use Rattle.rules.specs.Making.{dims}
+use borrow.Author.Tests.{eq-eqb, ne-eqb}
+use Rattle.rules.specs.Making.{makeOf}
+use Rattle.machine.proofs.Words.{make-fit}
+use borrow.Author.Needs.{needs}
+use Rattle.machine.proofs.make.Statement.{statement}
+use Rattle.machine.proofs.make.Tie as tie
+
+make-refusal-requires : tie.Need-make-refusal-requires
+make-refusal-requires c κs = search needs
+
+smallest-machine-requires : tie.Need-smallest-machine-requires
+smallest-machine-requires c κs = search needs
+
+returns : tie.Need-returns
+unfolding makeOf
+returns c = rw (← c .before .before .make-refusal .ensures, ne-eqb _ _ (c .before .if1 .taken), c .smallest-machine .ensures)
+
+fresh-machine-requires : tie.Need-fresh-machine-requires
+fresh-machine-requires c κs =
+    let c1 = c .before .before .before in
+    let x = c1 .args in make-fit (dims (x .processors) (x .words) (x .lines) (x .entries)) (x .memory .now)
+    (sym (c .before .make-refusal .ensures) ∙ c .if1 .left)
+
+returns-2 : tie.Need-returns-2
+unfolding makeOf
+returns-2 c = rw (← c .before .before .make-refusal .ensures, eq-eqb _ _ (c .before .if1 .left), c .fresh-machine .ensures)
+
+pub make-spec : {M : Type 1} → statement M
+make-spec =
+    tie.close
+    (tie.spec
+    make-refusal-requires
+    smallest-machine-requires
+    returns
+    fresh-machine-requires
+    returns-2)

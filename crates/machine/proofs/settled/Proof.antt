@@ -1,0 +1,49 @@
+use borrow.Author.Tests.{lt-ltb, le-ltb}
+use Prim.Native.Nat.{_%_}
+use mathlib.Core.Path.{_≡_, _∙_, sym}
+use native.Mathlib.Omega.{arith}
+use borrow.Author.Tests.{not-true, not-false}
+use Rattle.rules.specs.Step.{settledOf}
+use Rattle.machine.proofs.Words.{sound-fit}
+use borrow.Author.Needs.{needs}
+use Rattle.machine.proofs.settled.Statement.{statement}
+use Rattle.machine.proofs.settled.Tie as tie
+
+sound-requires : tie.Need-sound-requires
+sound-requires c κs = search needs
+
+returns : tie.Need-returns
+unfolding settledOf
+returns c = rw (← c .before .sound .ensures, not-true (c .before .sound .result) (c .if1 .taken))
+
+returns-2 : tie.Need-returns-2
+unfolding settledOf
+returns-2 c =
+    let c1 = c .before .before .before in
+    let c2 = c1 .before in
+    rw (
+      ← c2 .sound .ensures,
+      not-false (c2 .sound .result) (c1 .if1 .left),
+      le-ltb _ _ (c .if2 .taken),
+    )
+
+cast-w : tie.Need-cast-w
+cast-w c = search needs
+
+settled-in-requires : tie.Need-settled-in-requires
+settled-in-requires c κs = search needs
+
+returns-3 : tie.Need-returns-3
+unfolding settledOf
+returns-3 c =
+    let c1 = c .before .before .before .before .before .before .before .before .before in
+    let c2 = c1 .before .before .before in
+    let c3 = c2 .before in
+    let c4 = c3 .before in
+    let f = sound-fit _ _ (sym (c3 .sound .ensures) ∙ not-false (c3 .sound .result) (c2 .if1 .left)) in let e : c4 .args .word % 256 ≡
+    c4 .args .word = omega (arith, f .words, c1 .if2 .left) in rw
+    (← c3 .sound .ensures, not-false (c3 .sound .result) (c2 .if1 .left), lt-ltb _ _ (c1 .if2 .left), c .settled-in .ensures, e)
+
+pub settled-spec : {M : Type 1} → statement M
+settled-spec =
+    tie.close (tie.spec sound-requires returns returns-2 cast-w settled-in-requires returns-3)

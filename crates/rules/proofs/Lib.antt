@@ -1,0 +1,6 @@
+pub mod Table
+pub mod Cases
+pub mod Edges
+pub mod Worked
+pub mod Readings
+pub mod Slots

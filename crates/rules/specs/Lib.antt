@@ -1,0 +1,16 @@
+pub mod Refusals
+pub mod State
+pub mod Making
+pub mod Own
+pub mod Rollback
+pub mod Snoop
+pub mod Load
+pub mod Store
+pub mod Transact
+pub mod Ends
+pub mod Settled
+pub mod Sound
+pub mod SoundTest
+pub mod Step
+pub mod Run
+pub mod Lent
