@@ -13,54 +13,54 @@ use Rattle.entry.specs.declared.answer.Answered.{Answered}
 use Rattle.entry.specs.Answer.{refusedBy}
 use Rattle.rules.specs.declared.Dims.{Dims}
 use Rattle.rules.specs.State.{Caches, outcome}
-use Rattle.text.specs.Writing.{Written, written, putOf}
+use Rattle.text.specs.Writing.{Filled, filled, putOf}
 use Rattle.text.proofs.Puts.{put-fit}
 use Rattle.listing.specs.declared.places.Place.{Place}
 use Rattle.listing.specs.declared.records.Looked.{Looked}
 use Rattle.listing.specs.Place.{HEADER, REFUSAL, END, NOTHING, withPhase, more64, firstPhase}
 use Rattle.listing.specs.Lines.{mostLine, answerLine, endLine, headerLine}
 use Rattle.listing.specs.Records.{lookAt, answerOf, placeAfter}
-use Rattle.listing.specs.Pieces.{Carried, carried, runTo, stops, turn, pieceOf}
-use Rattle.listing.specs.Listing.{Going, going, doRecord, doOther, doLine, wrote, goesOn, lineAt, nextAt, linesLeft, fillOf}
+use Rattle.listing.specs.Pieces.{Filling, filling, runTo, stops, pieceTurn, pieceOf}
+use Rattle.listing.specs.Listing.{Going, going, doRecord, doOther, doLine, wroteLine, goesOn, lineOf, nextAt, linesLeft, fillOf}
 use Rattle.listing.proofs.Fitting.{answer-fair, end-fair}
 use Rattle.listing.proofs.Turning.{run-stop, run-turn}
 use Rattle.listing.proofs.Falling.{falls}
 
 -- what a put that fits leaves
-put-did : (l o o' : List ℕ) (used k : ℕ) → used + length l ≤ length o → written k o' ≡ putOf l (written used o) →
+put-did : (l o o' : List ℕ) (used k : ℕ) → used + length l ≤ length o → filled k o' ≡ putOf l (filled used o) →
     (k ≡ used + length l) × (o' ≡ sets o used l)
 put-did l o o' used k h e =
     let w = e ∙ sym (put-fit l o (sets o used l) used h refl) in
-    (ap (λ (x : Written). x .place) w, ap (λ (x : Written). x .held) w)
+    (ap (λ (x : Filled). x .place) w, ap (λ (x : Filled). x .held) w)
 
 module _ (s : List ℕ) (x : Place) (used : ℕ) (o : List ℕ) (room : used + mostLine ≤ length o) (k : ℕ) (o' : List ℕ) (y : Place) where
   pub record-did : (d : Dims) (c c' : Caches) (l : Looked) (a : Answered) (n : ℕ) →
       l ≡ lookAt s d x → outcome a c' ≡ answerOf d l c → n ≡ more64 (x .number) 1 →
-      written k o' ≡ putOf (answerLine n a) (written used o) → y ≡ placeAfter s x l a →
-      carried (going y c') k o' ≡ wrote (doRecord s d x c) used o
+      filled k o' ≡ putOf (answerLine n a) (filled used o) → y ≡ placeAfter s x l a →
+      filling (going y c') k o' ≡ wroteLine (doRecord s d x c) used o
   unfolding doRecord
   record-did d c c' l a n el ea en ep ey =
       let q = put-did (answerLine n a) o o' used k (omega (arith, answer-fair n a .1)) ep in
       rw (← el, ← ea, ← en, ey, q .0, q .1)
 
-  pub header-did : (f : ℕ) → x .phase ≡ HEADER → written k o' ≡ putOf headerLine (written used o) → f ≡ firstPhase s x → y ≡ withPhase x f →
-      (c : Caches) → carried (going y c) k o' ≡ wrote (doOther s x c) used o
+  pub header-did : (f : ℕ) → x .phase ≡ HEADER → filled k o' ≡ putOf headerLine (filled used o) → f ≡ firstPhase s x → y ≡ withPhase x f →
+      (c : Caches) → filling (going y c) k o' ≡ wroteLine (doOther s x c) used o
   unfolding doOther
   header-did f h ep ef ey c =
       let q = put-did headerLine o o' used k (omega arith) ep in
       rw (eq-eqb (x .phase) HEADER h, ← ef, ey, q .0, q .1)
 
   pub refusal-did : (a : Answered) → (x .phase ≡ HEADER → ⊥) → x .phase ≡ REFUSAL → a ≡ refusedBy (x .refusal) →
-      written k o' ≡ putOf (answerLine 0 a) (written used o) → y ≡ withPhase x END →
-      (c : Caches) → carried (going y c) k o' ≡ wrote (doOther s x c) used o
+      filled k o' ≡ putOf (answerLine 0 a) (filled used o) → y ≡ withPhase x END →
+      (c : Caches) → filling (going y c) k o' ≡ wroteLine (doOther s x c) used o
   unfolding doOther
   refusal-did a n h ea ep ey c =
       let q = put-did (answerLine 0 a) o o' used k (omega (arith, answer-fair 0 a .1)) ep in
       rw (ne-eqb (x .phase) HEADER n, eq-eqb (x .phase) REFUSAL h, ← ea, ey, q .0, q .1)
 
   pub end-did : (x .phase ≡ HEADER → ⊥) → (x .phase ≡ REFUSAL → ⊥) →
-      written k o' ≡ putOf (endLine (x .commits) (x .cycles)) (written used o) → y ≡ withPhase x NOTHING →
-      (c : Caches) → carried (going y c) k o' ≡ wrote (doOther s x c) used o
+      filled k o' ≡ putOf (endLine (x .commits) (x .cycles)) (filled used o) → y ≡ withPhase x NOTHING →
+      (c : Caches) → filling (going y c) k o' ≡ wroteLine (doOther s x c) used o
   unfolding doOther
   end-did n h ep ey c =
       let q = put-did (endLine (x .commits) (x .cycles)) o o' used k (omega (arith, end-fair (x .commits) (x .cycles) .1)) ep in
@@ -75,16 +75,16 @@ module _ (used n : ℕ) (o : List ℕ) (b : Bool) (same : length o ≡ n) (e : b
   some-room t = rw same (sym e ∙ not-false b t)
 
 module _ (s : List ℕ) (d : Dims) where
-  abbrev pub stop : Carried Going → Bool
-  stop = stops (goesOn s d) (lineAt s d) (nextAt s d) mostLine
+  abbrev pub stop : Filling Going → Bool
+  stop = stops (goesOn s d) (lineOf s d) (nextAt s d) mostLine
 
-  abbrev pub go : Carried Going → Carried Going
-  go = turn (goesOn s d) (lineAt s d) (nextAt s d) mostLine
+  abbrev pub go : Filling Going → Filling Going
+  go = pieceTurn (goesOn s d) (lineOf s d) (nextAt s d) mostLine
 
-  abbrev pub fillFrom : Carried Going → Carried Going
+  abbrev pub fillFrom : Filling Going → Filling Going
   fillFrom c = runTo stop go (linesLeft s d (c .state)) c
 
-  stop-falls : (c : Carried Going) → stop c ≡ false → linesLeft s d (go c .state) < linesLeft s d (c .state)
+  stop-falls : (c : Filling Going) → stop c ≡ false → linesLeft s d (go c .state) < linesLeft s d (c .state)
   stop-falls c e = by (goesOn s d (c .state)) refl e
     where
       by : (b : Bool) → goesOn s d (c .state) ≡ b → not (both b (leb (c .used + mostLine) (length (c .buffer)))) ≡ false →
@@ -92,36 +92,36 @@ module _ (s : List ℕ) (d : Dims) where
       by true h z = falls s d (c .state) h
       by false h z = absurd (true≢false z)
 
-  pub fill-starts : (g : Going) (o : List ℕ) → fillFrom (carried g 0 o) ≡ fillOf s d g o
+  pub fill-starts : (g : Going) (o : List ℕ) → fillFrom (filling g 0 o) ≡ fillOf s d g o
   unfolding fillOf pieceOf
   fill-starts g o = refl
 
   -- the loop's two ends, and its turn
-  pub ended-lines : (x : Place) (c : Caches) (used : ℕ) (o : List ℕ) (w : Carried Going) → fillFrom (carried (going x c) used o) ≡ w →
-      NOTHING ≤ x .phase → carried (going x c) used o ≡ w
+  pub ended-lines : (x : Place) (c : Caches) (used : ℕ) (o : List ℕ) (w : Filling Going) → fillFrom (filling (going x c) used o) ≡ w →
+      NOTHING ≤ x .phase → filling (going x c) used o ≡ w
   ended-lines x c used o w e h =
-      sym (run-stop stop go (linesLeft s d (going x c)) (carried (going x c) used o) (rw (le-ltb (x .phase) NOTHING h))) ∙ e
+      sym (run-stop stop go (linesLeft s d (going x c)) (filling (going x c) used o) (rw (le-ltb (x .phase) NOTHING h))) ∙ e
 
-  pub ended-room : (x : Place) (c : Caches) (used : ℕ) (o : List ℕ) (w : Carried Going) → fillFrom (carried (going x c) used o) ≡ w →
-      leb (used + mostLine) (length o) ≡ false → carried (going x c) used o ≡ w
+  pub ended-room : (x : Place) (c : Caches) (used : ℕ) (o : List ℕ) (w : Filling Going) → fillFrom (filling (going x c) used o) ≡ w →
+      leb (used + mostLine) (length o) ≡ false → filling (going x c) used o ≡ w
   ended-room x c used o w e h =
-      sym (run-stop stop go (linesLeft s d (going x c)) (carried (going x c) used o) (by (ltb (x .phase) NOTHING))) ∙ e
+      sym (run-stop stop go (linesLeft s d (going x c)) (filling (going x c) used o) (by (ltb (x .phase) NOTHING))) ∙ e
     where
       by : (b : Bool) → not (both b (leb (used + mostLine) (length o))) ≡ true
       by true = rw h
       by false = refl
 
-  pub went-on : (x : Place) (c : Caches) (used : ℕ) (o : List ℕ) (w : Carried Going) → fillFrom (carried (going x c) used o) ≡ w →
-      x .phase < NOTHING → leb (used + mostLine) (length o) ≡ true → (v : Carried Going) → v ≡ wrote (doLine s d x c) used o → fillFrom v ≡ w
+  pub went-on : (x : Place) (c : Caches) (used : ℕ) (o : List ℕ) (w : Filling Going) → fillFrom (filling (going x c) used o) ≡ w →
+      x .phase < NOTHING → leb (used + mostLine) (length o) ≡ true → (v : Filling Going) → v ≡ wroteLine (doLine s d x c) used o → fillFrom v ≡ w
   went-on x c used o w e h r v ev =
       rw ev
       (sym
-      (run-turn stop go (λ (z : Carried Going). linesLeft s d (z .state)) stop-falls (carried (going x c) used o)
+      (run-turn stop go (λ (z : Filling Going). linesLeft s d (z .state)) stop-falls (filling (going x c) used o)
       (rw (lt-ltb (x .phase) NOTHING h, r))) ∙
       e)
 
   pub less : (x : Place) (c : Caches) (used : ℕ) (o : List ℕ) → x .phase < NOTHING → (y : Place) (c' : Caches) (k : ℕ) (o' : List ℕ) →
-      carried (going y c') k o' ≡ wrote (doLine s d x c) used o → linesLeft s d (going y c') < linesLeft s d (going x c)
+      filling (going y c') k o' ≡ wroteLine (doLine s d x c) used o → linesLeft s d (going y c') < linesLeft s d (going x c)
   less x c used o h y c' k o' e =
-      let g : linesLeft s d (going y c') ≡ linesLeft s d (nextAt s d (going x c)) = ap (λ (z : Carried Going). linesLeft s d (z .state)) e in
+      let g : linesLeft s d (going y c') ≡ linesLeft s d (nextAt s d (going x c)) = ap (λ (z : Filling Going). linesLeft s d (z .state)) e in
       omega (arith, g, falls s d (going x c) (lt-ltb (x .phase) NOTHING h))

@@ -20,7 +20,7 @@ use Rattle.listing.specs.declared.places.Place.{Place}
 use Rattle.listing.specs.declared.records.Looked.{Looked}
 use Rattle.listing.specs.Place.{HEADER, REFUSAL, RECORD, END, NOTHING, past, phaseAt, firstPhase}
 use Rattle.listing.specs.Records.{mostBytes, tooLong, lookedIn, lookAt, phaseAfter, placeAfter}
-use Rattle.listing.specs.Listing.{Did, Going, goesOn, lineAt, nextAt, linesLeft, doRecord, doOther, doLine}
+use Rattle.listing.specs.Listing.{Did, Going, goesOn, lineOf, nextAt, linesLeft, doRecord, doOther, doLine}
 use Rattle.listing.proofs.Fitting.{fair, answer-fair, end-fair}
 
 pick-case : (P : Did → Type 0) (b : Bool) (x y : Did) → (b ≡ true → P x) → (b ≡ false → P y) → P (pick b x y)
@@ -125,7 +125,7 @@ module _ (s : List ℕ) where
             rw h
             (other-falls (g .place) (g .caches) (ltb-true (g .place .phase) NOTHING e) (eqb-false (g .place .phase) RECORD h))
 
-    pub fair-line : (g : Going) → fair (lineAt s d g)
+    pub fair-line : (g : Going) → fair (lineOf s d g)
     unfolding doLine doRecord doOther
     fair-line g =
         pick-case fairly (eqb (g .place .phase) RECORD) _ _ (λ e. answer-fair _ _)

@@ -12,9 +12,9 @@ use Rattle.entry.specs.declared.answer.Answer.the-variants.{Value, Done, Succes
 use Rattle.entry.specs.declared.answer.Answered.{Answered}
 use Rattle.entry.specs.Answer.{answerName, cyclesOf}
 use Rattle.text.specs.Quoted.{bytes}
-use Rattle.text.specs.Writing.{Written, putOf, decimal}
+use Rattle.text.specs.Writing.{Filled, putOf, decimal}
 use Rattle.text.proofs.Puts.{texts, putAll, put-all, decimal-length, width-range}
-use Rattle.listing.specs.Lines.{crlf, mostLine, shown, answerLine, endLine}
+use Rattle.listing.specs.Lines.{crlf, mostLine, printed, answerLine, endLine}
 
 abbrev lengths : List (List ℕ) → ℕ
 lengths [] = 0
@@ -42,7 +42,7 @@ answerParts n a =
     decimal n ∷
     (bytes "," ∷
     (bytes (answerName (a .answer)) ∷
-    (bytes "," ∷ (decimal (shown (a .answer)) ∷ (bytes "," ∷ (decimal (cyclesOf (a .counts)) ∷ (crlf ∷ [])))))))
+    (bytes "," ∷ (decimal (printed (a .answer)) ∷ (bytes "," ∷ (decimal (cyclesOf (a .counts)) ∷ (crlf ∷ [])))))))
 
 -- neither empty nor longer than mostLine
 abbrev pub fair : List ℕ → Type 0
@@ -52,9 +52,9 @@ pub answer-fair : (n : ℕ) (a : Answered) → fair (answerLine n a)
 unfolding answerLine
 answer-fair n a =
     let l = texts-length (answerParts n a) in
-    omega (arith, l, decimal-most n, name-most (a .answer), decimal-most (shown (a .answer)), decimal-most (cyclesOf (a .counts)))
+    omega (arith, l, decimal-most n, name-most (a .answer), decimal-most (printed (a .answer)), decimal-most (cyclesOf (a .counts)))
 
-pub answer-fits : (n : ℕ) (a : Answered) (x : Written) → x .place + mostLine ≤ length (x .held) →
+pub answer-fits : (n : ℕ) (a : Answered) (x : Filled) → x .place + mostLine ≤ length (x .held) →
     putAll (answerParts n a) x ≡ putOf (answerLine n a) x
 unfolding answerLine
 answer-fits n a x h = put-all (answerParts n a) x (omega (arith, answer-fair n a .1))
@@ -66,19 +66,19 @@ pub end-fair : (n k : ℕ) → fair (endLine n k)
 unfolding endLine
 end-fair n k = let l = texts-length (endParts n k) in omega (arith, l, decimal-most n, decimal-most k)
 
-pub end-fits : (n k : ℕ) (x : Written) → x .place + mostLine ≤ length (x .held) → putAll (endParts n k) x ≡ putOf (endLine n k) x
+pub end-fits : (n k : ℕ) (x : Filled) → x .place + mostLine ≤ length (x .held) → putAll (endParts n k) x ≡ putOf (endLine n k) x
 unfolding endLine
 end-fits n k x h = put-all (endParts n k) x (omega (arith, end-fair n k .1))
 
 -- the same for the parts written one after the other
-pub answer-written : (n v k : ℕ) (a : Answered) (x x1 x2 x3 x4 x5 x6 x7 x8 : Written) → x .place + mostLine ≤ length (x .held) →
+pub answer-written : (n v k : ℕ) (a : Answered) (x x1 x2 x3 x4 x5 x6 x7 x8 : Filled) → x .place + mostLine ≤ length (x .held) →
     x1 ≡ putOf (decimal n) x → x2 ≡ putOf (bytes ",") x1 → x3 ≡ putOf (bytes (answerName (a .answer))) x2 → x4 ≡ putOf (bytes ",") x3 →
-    v ≡ shown (a .answer) → x5 ≡ putOf (decimal v) x4 → x6 ≡ putOf (bytes ",") x5 →
+    v ≡ printed (a .answer) → x5 ≡ putOf (decimal v) x4 → x6 ≡ putOf (bytes ",") x5 →
     k ≡ cyclesOf (a .counts) → x7 ≡ putOf (decimal k) x6 → x8 ≡ putOf crlf x7 → x8 ≡ putOf (answerLine n a) x
 answer-written n v k a x x1 x2 x3 x4 x5 x6 x7 x8 h e1 e2 e3 e4 ev e5 e6 ek e7 e8 =
     rw (e8, e7, ek, e6, e5, ev, e4, e3, e2, e1) (answer-fits n a x h)
 
-pub end-written : (n k : ℕ) (x x1 x2 x3 x4 x5 : Written) → x .place + mostLine ≤ length (x .held) →
+pub end-written : (n k : ℕ) (x x1 x2 x3 x4 x5 : Filled) → x .place + mostLine ≤ length (x .held) →
     x1 ≡ putOf (bytes "END,COMMITTED,") x → x2 ≡ putOf (decimal n) x1 → x3 ≡ putOf (bytes ",") x2 → x4 ≡ putOf (decimal k) x3 →
     x5 ≡ putOf crlf x4 → x5 ≡ putOf (endLine n k) x
 end-written n k x x1 x2 x3 x4 x5 h e1 e2 e3 e4 e5 = rw (e5, e4, e3, e2, e1) (end-fits n k x h)

@@ -12,20 +12,20 @@ use lib.Seq.{sets, length-sets, sets-eq, take-append-seam, drop-append-seam}
 use Rattle.laws.specs.Choice.{pick, both}
 use Rattle.text.proofs.Puts.{sets-append}
 use Rattle.listing.specs.Pieces as pieces
-use Rattle.listing.specs.Pieces.{runTo, Carried, carried}
+use Rattle.listing.specs.Pieces.{runTo, Filling, filling}
 
 -- S is what stands between two lines, more whether another line comes, line that line and next what stands after it.
 module _ {S : Type 0} (more : S → Bool) (line : S → List ℕ) (next : S → S) (most : ℕ) where
   abbrev textFrom : ℕ → S → List ℕ
   textFrom = pieces.textFrom more line next
 
-  abbrev stops : Carried S → Bool
+  abbrev stops : Filling S → Bool
   stops = pieces.stops more line next most
 
-  abbrev turn : Carried S → Carried S
-  turn = pieces.turn more line next most
+  abbrev pieceTurn : Filling S → Filling S
+  pieceTurn = pieces.turn more line next most
 
-  abbrev pieceOf : ℕ → S → List ℕ → Carried S
+  abbrev pieceOf : ℕ → S → List ℕ → Filling S
   pieceOf = pieces.pieceOf more line next most
 
   -- μ falls with each line, so that there is an end
@@ -76,23 +76,23 @@ module _ {S : Type 0} (more : S → Bool) (line : S → List ℕ) (next : S → 
 
     module _ (long : (x : S) → length (line x) ≤ most) (o : List ℕ) where
       -- the buffer holds t and is else as it was
-      abbrev pub holding : S → List ℕ → Carried S
-      holding x t = carried x (length t) (sets o 0 t)
+      abbrev pub holding : S → List ℕ → Filling S
+      holding x t = filling x (length t) (sets o 0 t)
 
-      pub turned : (x : S) (t : List ℕ) → turn (holding x t) ≡ holding (next x) (t ++ line x)
+      pub turned : (x : S) (t : List ℕ) → pieceTurn (holding x t) ≡ holding (next x) (t ++ line x)
       turned x t =
           rw (length-append t (line x))
-          (ap (λ (r : List ℕ). carried (next x) (length t + length (line x)) r)
+          (ap (λ (r : List ℕ). filling (next x) (length t + length (line x)) r)
           (sym (sets-append t (line x) o 0 ∙ ap (λ (k : ℕ). sets (sets o 0 t) k (line x)) (zero-add (length t)))))
 
       -- what a piece adds to the text t that the buffer holds, and that with the whole text from where it stopped it is the whole from x
-      pub record Piece (x : S) (t : List ℕ) (c : Carried S) : Type 0 where
+      pub record Piece (x : S) (t : List ℕ) (c : Filling S) : Type 0 where
         pub text : List ℕ
         pub holds : c ≡ holding (c .state) (t ++ text)
         pub fits : length (t ++ text) ≤ length o
         pub joins : text ++ wholeText (c .state) ≡ wholeText x
 
-      pub piece-from : (f : ℕ) (x : S) (t : List ℕ) → length t ≤ length o → Piece x t (runTo stops turn f (holding x t))
+      pub piece-from : (f : ℕ) (x : S) (t : List ℕ) → length t ≤ length o → Piece x t (runTo stops pieceTurn f (holding x t))
       unfolding runTo
       piece-from zero x t h = record { text = []; holds = rw (append-nil t); fits = rw (append-nil t) h; joins = refl }
       piece-from (suc f) x t h =
@@ -102,8 +102,8 @@ module _ {S : Type 0} (more : S → Bool) (line : S → List ℕ) (next : S → 
           stay = record { text = []; holds = rw (append-nil t); fits = rw (append-nil t) h; joins = refl }
 
           by : (a b : Bool) → more x ≡ a → leb (length t + most) (length (sets o 0 t)) ≡ b →
-              (length (t ++ line x) ≤ length o → Piece (next x) (t ++ line x) (runTo stops turn f (holding (next x) (t ++ line x)))) →
-              Piece x t (pick (not (both a b)) (holding x t) (runTo stops turn f (turn (holding x t))))
+              (length (t ++ line x) ≤ length o → Piece (next x) (t ++ line x) (runTo stops pieceTurn f (holding (next x) (t ++ line x)))) →
+              Piece x t (pick (not (both a b)) (holding x t) (runTo stops pieceTurn f (pieceTurn (holding x t))))
           by false b e g ih = stay
           by true false e g ih = stay
           by true true e g ih = rw (turned x t) (on (ih room))
@@ -111,8 +111,8 @@ module _ {S : Type 0} (more : S → Bool) (line : S → List ℕ) (next : S → 
               room : length (t ++ line x) ≤ length o
               room = omega (arith, length-append t (line x), long x, leb-true (length t + most) (length (sets o 0 t)) g, length-sets o 0 t)
 
-              on : Piece (next x) (t ++ line x) (runTo stops turn f (holding (next x) (t ++ line x))) →
-                  Piece x t (runTo stops turn f (holding (next x) (t ++ line x)))
+              on : Piece (next x) (t ++ line x) (runTo stops pieceTurn f (holding (next x) (t ++ line x))) →
+                  Piece x t (runTo stops pieceTurn f (holding (next x) (t ++ line x)))
               on p =
                   record {
                     text = line x ++ p .text;
@@ -128,7 +128,7 @@ module _ {S : Type 0} (more : S → Bool) (line : S → List ℕ) (next : S → 
       unfolding pieces.pieceOf
       piece-joins f x = at (piece-from f x [] (omega arith))
         where
-          at : {c : Carried S} → Piece x [] c → take (c .used) (c .buffer) ++ wholeText (c .state) ≡ wholeText x
+          at : {c : Filling S} → Piece x [] c → take (c .used) (c .buffer) ++ wholeText (c .state) ≡ wholeText x
           at {c} p =
               rw (p .holds, sets-eq (p .text) o 0 (omega (arith, p .fits)), take-append-seam (p .text) (drop (0 + length (p .text)) o)) (p .joins)
 
@@ -137,18 +137,18 @@ module _ {S : Type 0} (more : S → Bool) (line : S → List ℕ) (next : S → 
       unfolding pieces.pieceOf
       piece-keeps f x = at (piece-from f x [] (omega arith))
         where
-          at : {c : Carried S} → Piece x [] c → drop (c .used) (c .buffer) ≡ drop (c .used) o
+          at : {c : Filling S} → Piece x [] c → drop (c .used) (c .buffer) ≡ drop (c .used) o
           at {c} p =
               rw (p .holds, sets-eq (p .text) o 0 (omega (arith, p .fits)), drop-append-seam (p .text) (drop (0 + length (p .text)) o), zero-add)
 
     -- a piece never goes back, and one that has a line to write and room for it goes on
-    pub never-back : (f : ℕ) (c : Carried S) → μ (runTo stops turn f c .state) ≤ μ (c .state)
+    pub never-back : (f : ℕ) (c : Filling S) → μ (runTo stops pieceTurn f c .state) ≤ μ (c .state)
     unfolding runTo
     never-back zero c = omega arith
-    never-back (suc f) c = by (more (c .state)) (leb (c .used + most) (length (c .buffer))) refl (never-back f (turn c))
+    never-back (suc f) c = by (more (c .state)) (leb (c .used + most) (length (c .buffer))) refl (never-back f (pieceTurn c))
       where
-        by : (a b : Bool) → more (c .state) ≡ a → μ (runTo stops turn f (turn c) .state) ≤ μ (next (c .state)) →
-            μ (pick (not (both a b)) c (runTo stops turn f (turn c)) .state) ≤ μ (c .state)
+        by : (a b : Bool) → more (c .state) ≡ a → μ (runTo stops pieceTurn f (pieceTurn c) .state) ≤ μ (next (c .state)) →
+            μ (pick (not (both a b)) c (runTo stops pieceTurn f (pieceTurn c)) .state) ≤ μ (c .state)
         by false b e h = omega arith
         by true false e h = omega arith
         by true true e h = omega (arith, h, falls (c .state) e)
@@ -157,24 +157,24 @@ module _ {S : Type 0} (more : S → Bool) (line : S → List ℕ) (next : S → 
     unfolding pieces.pieceOf runTo
     goes-on x o e h = go (μ x) refl
       where
-        go : (n : ℕ) → μ x ≡ n → μ (runTo stops turn n (carried x 0 o) .state) < μ x
+        go : (n : ℕ) → μ x ≡ n → μ (runTo stops pieceTurn n (filling x 0 o) .state) < μ x
         go zero z = absurd (omega (arith, falls x e))
         go (suc n) z =
-            rw (e, le-leb (0 + most) (length o) (omega arith)) (omega (arith, falls x e, never-back n (turn (carried x 0 o))))
+            rw (e, le-leb (0 + most) (length o) (omega arith)) (omega (arith, falls x e, never-back n (pieceTurn (filling x 0 o))))
 
     -- nothing is written where no line comes
-    pub piece-none : (f : ℕ) (x : S) (o : List ℕ) → more x ≡ false → pieceOf f x o ≡ carried x 0 o
+    pub piece-none : (f : ℕ) (x : S) (o : List ℕ) → more x ≡ false → pieceOf f x o ≡ filling x 0 o
     unfolding pieces.pieceOf runTo
     piece-none zero x o e = refl
     piece-none (suc f) x o e = rw e
 
     -- what is written is never taken back, so that a piece that has a line to write and room for it writes
-    pub never-less : (f : ℕ) (c : Carried S) → c .used ≤ runTo stops turn f c .used
+    pub never-less : (f : ℕ) (c : Filling S) → c .used ≤ runTo stops pieceTurn f c .used
     unfolding runTo
     never-less zero c = omega arith
-    never-less (suc f) c = by (stops c) (never-less f (turn c))
+    never-less (suc f) c = by (stops c) (never-less f (pieceTurn c))
       where
-        by : (b : Bool) → turn c .used ≤ runTo stops turn f (turn c) .used → c .used ≤ pick b c (runTo stops turn f (turn c)) .used
+        by : (b : Bool) → pieceTurn c .used ≤ runTo stops pieceTurn f (pieceTurn c) .used → c .used ≤ pick b c (runTo stops pieceTurn f (pieceTurn c)) .used
         by true h = omega arith
         by false h = omega (arith, h)
 
@@ -182,7 +182,7 @@ module _ {S : Type 0} (more : S → Bool) (line : S → List ℕ) (next : S → 
     unfolding pieces.pieceOf runTo
     writes some x o e h = go (μ x) refl
       where
-        go : (n : ℕ) → μ x ≡ n → 0 < runTo stops turn n (carried x 0 o) .used
+        go : (n : ℕ) → μ x ≡ n → 0 < runTo stops pieceTurn n (filling x 0 o) .used
         go zero z = absurd (omega (arith, falls x e))
         go (suc n) z =
-            rw (e, le-leb (0 + most) (length o) (omega arith)) (omega (arith, some x, never-less n (turn (carried x 0 o))))
+            rw (e, le-leb (0 + most) (length o) (omega arith)) (omega (arith, some x, never-less n (pieceTurn (filling x 0 o))))

@@ -6,7 +6,7 @@ use borrow.Fn.World.{ArgsD, ResD}
 use borrow.Fn.Kinds.{endedOf}
 use denote.Triple.Clauses.{AtExit}
 use denote.Ref.{now}
-use Rattle.listing.specs.Replay.{leftBy}
+use Rattle.listing.specs.Replay.{pieceLeftBy}
 use Rattle.listing.proofs.begin as begin
 use Rattle.listing.proofs.begin.Kinds as begin-kinds
 use Rattle.listing.proofs.begin.Reads as begin-reads
@@ -22,5 +22,5 @@ begin-unique κs a r r' s s' p q = p ∙ sym q
 pub next-piece-unique : (κs : Lfts 2) (a : ArgsD next-piece.signature κs) (r r' : ResD next-piece.signature κs)
     (s s' : AtExit (endedOf 2 next-piece-kinds.ps next-piece-kinds.r) κs) →
     next-piece-reads.Post κs a r s → next-piece-reads.Post κs a r' s' →
-    leftBy r (now (s .1 .0)) ≡ leftBy r' (now (s' .1 .0))
+    pieceLeftBy r (now (s .1 .0)) ≡ pieceLeftBy r' (now (s' .1 .0))
 next-piece-unique κs a r r' s s' p q = p ∙ sym q

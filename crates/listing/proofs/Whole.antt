@@ -9,7 +9,7 @@ use lib.ListN.{length, take, drop}
 use Rattle.rules.specs.declared.Dims.{Dims}
 use Rattle.listing.specs.declared.Replaying.{Replaying}
 use Rattle.listing.specs.Lines.{mostLine}
-use Rattle.listing.specs.Listing.{goesOn, lineAt, nextAt, linesLeft, fillOf, listingFrom}
+use Rattle.listing.specs.Listing.{goesOn, lineOf, nextAt, linesLeft, fillOf, listingFrom}
 use Rattle.listing.specs.Replay.{goingOf, nextPiece, beginOf, listing}
 use Rattle.listing.proofs.Joining.{wholeText, whole-end, piece-joins, piece-keeps, piece-none, goes-on, writes}
 use Rattle.listing.proofs.Falling.{falls, fair-line}
@@ -39,37 +39,37 @@ module _ (s : List ℕ) where
   rest-end : (x : Replaying) → isMore x ≡ false → rest x ≡ []
   unfolding listingFrom wholeText
   rest-end x e =
-      whole-end (goesOn s (dimsOf x)) (lineAt s (dimsOf x)) (nextAt s (dimsOf x)) mostLine (linesLeft s (dimsOf x)) (falls s (dimsOf x)) (goingOf x) e
+      whole-end (goesOn s (dimsOf x)) (lineOf s (dimsOf x)) (nextAt s (dimsOf x)) mostLine (linesLeft s (dimsOf x)) (falls s (dimsOf x)) (goingOf x) e
 
   pub piece-rest : (x : Replaying) (o : List ℕ) → writtenBy x o ++ rest (after x o) ≡ rest x
   unfolding nextPiece fillOf listingFrom wholeText
   piece-rest x o =
-      piece-joins (goesOn s (dimsOf x)) (lineAt s (dimsOf x)) (nextAt s (dimsOf x)) mostLine (linesLeft s (dimsOf x)) (falls s (dimsOf x))
+      piece-joins (goesOn s (dimsOf x)) (lineOf s (dimsOf x)) (nextAt s (dimsOf x)) mostLine (linesLeft s (dimsOf x)) (falls s (dimsOf x))
       (λ g. fair-line s (dimsOf x) g .1) o (leftOver x) (goingOf x)
 
   pub piece-kept : (x : Replaying) (o : List ℕ) →
       drop (nextPiece s x o .piece .used) (nextPiece s x o .buffer) ≡ drop (nextPiece s x o .piece .used) o
   unfolding nextPiece fillOf
   piece-kept x o =
-      piece-keeps (goesOn s (dimsOf x)) (lineAt s (dimsOf x)) (nextAt s (dimsOf x)) mostLine (linesLeft s (dimsOf x)) (falls s (dimsOf x))
+      piece-keeps (goesOn s (dimsOf x)) (lineOf s (dimsOf x)) (nextAt s (dimsOf x)) mostLine (linesLeft s (dimsOf x)) (falls s (dimsOf x))
       (λ g. fair-line s (dimsOf x) g .1) o (leftOver x) (goingOf x)
 
   pub piece-writes : (x : Replaying) (o : List ℕ) → isMore x ≡ true → mostLine ≤ length o → 0 < nextPiece s x o .piece .used
   unfolding nextPiece fillOf
   piece-writes x o e h =
-      writes (goesOn s (dimsOf x)) (lineAt s (dimsOf x)) (nextAt s (dimsOf x)) mostLine (linesLeft s (dimsOf x)) (falls s (dimsOf x))
+      writes (goesOn s (dimsOf x)) (lineOf s (dimsOf x)) (nextAt s (dimsOf x)) mostLine (linesLeft s (dimsOf x)) (falls s (dimsOf x))
       (λ g. fair-line s (dimsOf x) g .0) (goingOf x) o e h
 
   piece-on : (x : Replaying) (o : List ℕ) → isMore x ≡ true → mostLine ≤ length o → leftOver (after x o) < leftOver x
   unfolding nextPiece fillOf
   piece-on x o e h =
-      goes-on (goesOn s (dimsOf x)) (lineAt s (dimsOf x)) (nextAt s (dimsOf x)) mostLine (linesLeft s (dimsOf x)) (falls s (dimsOf x))
+      goes-on (goesOn s (dimsOf x)) (lineOf s (dimsOf x)) (nextAt s (dimsOf x)) mostLine (linesLeft s (dimsOf x)) (falls s (dimsOf x))
       (goingOf x) o e h
 
   piece-ended : (x : Replaying) (o : List ℕ) → isMore x ≡ false → (writtenBy x o ≡ []) × (isMore (after x o) ≡ false)
   unfolding nextPiece fillOf
   piece-ended x o e =
-      rw (piece-none (goesOn s (dimsOf x)) (lineAt s (dimsOf x)) (nextAt s (dimsOf x)) mostLine (linesLeft s (dimsOf x)) (falls s (dimsOf x))
+      rw (piece-none (goesOn s (dimsOf x)) (lineOf s (dimsOf x)) (nextAt s (dimsOf x)) mostLine (linesLeft s (dimsOf x)) (falls s (dimsOf x))
       (leftOver x) (goingOf x) o e)
       (refl, e)
 

@@ -17,22 +17,22 @@ abbrev pub mostLine : ℕ
 mostLine = 72
 
 -- "A refusal reads `n,REFUSED,number,0`"; every other answer shows its value
-abbrev pub shown : Answer → ℕ
-shown (Value v) = v
-shown Done = 0
-shown Success = 0
-shown Failure = 0
-shown True = 0
-shown False = 0
-shown Aborted = 0
-shown (Refused n) = n
+abbrev pub printed : Answer → ℕ
+printed (Value v) = v
+printed Done = 0
+printed Success = 0
+printed Failure = 0
+printed True = 0
+printed False = 0
+printed Aborted = 0
+printed (Refused n) = n
 
 -- "Fields: record number from 1, answer, value, sum of the six counts."
 unfoldable pub answerLine : ℕ → Answered → List ℕ
 answerLine n a =
     decimal n ++
     (bytes "," ++
-    (bytes (answerName (a .answer)) ++ (bytes "," ++ (decimal (shown (a .answer)) ++ (bytes "," ++ (decimal (cyclesOf (a .counts)) ++ crlf))))))
+    (bytes (answerName (a .answer)) ++ (bytes "," ++ (decimal (printed (a .answer)) ++ (bytes "," ++ (decimal (cyclesOf (a .counts)) ++ crlf))))))
 
 -- "END gives successful commits and all cycles."
 unfoldable pub endLine : ℕ → ℕ → List ℕ

@@ -13,7 +13,7 @@ use Rattle.listing.specs.declared.places.Place.{Place}
 use Rattle.listing.specs.Place.{HEADER, REFUSAL, RECORD, END, NOTHING, withPhase, more64, firstPhase}
 use Rattle.listing.specs.Lines.{mostLine, answerLine, endLine, headerLine}
 use Rattle.listing.specs.Records.{lookAt, answerOf, placeAfter}
-use Rattle.listing.specs.Pieces.{Carried, carried, textFrom, pieceOf}
+use Rattle.listing.specs.Pieces.{Filling, filling, textFrom, pieceOf}
 
 -- a line, and where the replay stands after it
 pub record Did : Type 0 where
@@ -50,15 +50,15 @@ abbrev pub going : Place → Caches → Going
 going x c = record { place = x; caches = c }
 
 -- a line written, where the buffer's first used places are
-abbrev pub wrote : Did → ℕ → List ℕ → Carried Going
-wrote r used o = carried (going (r .place) (r .after)) (used + length (r .line)) (sets o used (r .line))
+abbrev pub wroteLine : Did → ℕ → List ℕ → Filling Going
+wroteLine r used o = filling (going (r .place) (r .after)) (used + length (r .line)) (sets o used (r .line))
 
 module _ (s : List ℕ) (d : Dims) where
   abbrev pub goesOn : Going → Bool
   goesOn g = ltb (g .place .phase) NOTHING
 
-  abbrev pub lineAt : Going → List ℕ
-  lineAt g = doLine s d (g .place) (g .caches) .line
+  abbrev pub lineOf : Going → List ℕ
+  lineOf g = doLine s d (g .place) (g .caches) .line
 
   abbrev pub nextAt : Going → Going
   nextAt g = let r = doLine s d (g .place) (g .caches) in going (r .place) (r .after)
@@ -68,9 +68,9 @@ module _ (s : List ℕ) (d : Dims) where
   linesLeft g = (length s - g .place .at) + (NOTHING - g .place .phase)
 
   -- as much of the listing as surely fits a buffer
-  unfoldable pub fillOf : Going → List ℕ → Carried Going
-  fillOf g o = pieceOf goesOn lineAt nextAt mostLine (linesLeft g) g o
+  unfoldable pub fillOf : Going → List ℕ → Filling Going
+  fillOf g o = pieceOf goesOn lineOf nextAt mostLine (linesLeft g) g o
 
   -- the listing from a place on
   unfoldable pub listingFrom : Going → List ℕ
-  listingFrom g = textFrom goesOn lineAt nextAt (linesLeft g) g
+  listingFrom g = textFrom goesOn lineOf nextAt (linesLeft g) g

@@ -14,13 +14,13 @@ runTo stop g zero x = x
 runTo stop g (suc f) x = let r = runTo stop g f (g x) in pick (stop x) x r
 
 -- what a piece carries: where it stands, and the buffer with its first places written
-pub record Carried (S : Type 0) : Type 0 where
+pub record Filling (S : Type 0) : Type 0 where
   pub state : S
   pub used : ℕ
   pub buffer : List ℕ
 
-abbrev pub carried : {S : Type 0} → S → ℕ → List ℕ → Carried S
-carried x u o = record { state = x; used = u; buffer = o }
+abbrev pub filling : {S : Type 0} → S → ℕ → List ℕ → Filling S
+filling x u o = record { state = x; used = u; buffer = o }
 
 -- S is what stands between two lines, more whether another line comes, line that line and next what stands after it.
 module _ {S : Type 0} (more : S → Bool) (line : S → List ℕ) (next : S → S) where
@@ -31,12 +31,12 @@ module _ {S : Type 0} (more : S → Bool) (line : S → List ℕ) (next : S → 
 
   -- No line is longer than most.
   module _ (most : ℕ) where
-    abbrev pub stops : Carried S → Bool
+    abbrev pub stops : Filling S → Bool
     stops c = not (both (more (c .state)) (leb (c .used + most) (length (c .buffer))))
 
-    abbrev pub turn : Carried S → Carried S
-    turn c = carried (next (c .state)) (c .used + length (line (c .state))) (sets (c .buffer) (c .used) (line (c .state)))
+    abbrev pub pieceTurn : Filling S → Filling S
+    pieceTurn c = filling (next (c .state)) (c .used + length (line (c .state))) (sets (c .buffer) (c .used) (line (c .state)))
 
     -- a piece of at most f lines
-    unfoldable pub pieceOf : ℕ → S → List ℕ → Carried S
-    pieceOf f x o = runTo stops turn f (carried x 0 o)
+    unfoldable pub pieceOf : ℕ → S → List ℕ → Filling S
+    pieceOf f x o = runTo stops pieceTurn f (filling x 0 o)

@@ -31,12 +31,12 @@ END = 3
 abbrev pub NOTHING : ℕ
 NOTHING = 4
 
-abbrev pub place : ℕ → ℕ → ℕ → ℕ → Bool → ℕ → ℕ → ℕ → Place
-place phase refusal at number taken grant commits cycles =
+abbrev pub placeOf : ℕ → ℕ → ℕ → ℕ → Bool → ℕ → ℕ → ℕ → Place
+placeOf phase refusal at number taken grant commits cycles =
     record { phase = phase; refusal = refusal; at = at; number = number; taken = taken; grant = grant; commits = commits; cycles = cycles }
 
 abbrev pub withPhase : Place → ℕ → Place
-withPhase x k = place k (x .refusal) (x .at) (x .number) (x .taken) (x .grant) (x .commits) (x .cycles)
+withPhase x k = placeOf k (x .refusal) (x .at) (x .number) (x .taken) (x .grant) (x .commits) (x .cycles)
 
 -- counts stand still at the largest number of 64 bits, which no input of 4 MiB reaches
 unfoldable pub more64 : ℕ → ℕ → ℕ
@@ -61,6 +61,6 @@ headerOk s = sameText s 0 (recordEnd s 0) (bytes "grant,core,op,word,value")
 -- where the replay of a text begins, on a machine whose making was answered by n: refused, with n or 13, or at its first record
 unfoldable pub beginAt : List ℕ → ℕ → Place
 beginAt s n =
-    let refused = place HEADER n 0 0 false 0 0 0 in
-    let wrong = place HEADER wrongHeader 0 0 false 0 0 0 in
-    pick (eqb n accepted) (pick (headerOk s) (place HEADER accepted (past s (recordEnd s 0)) 0 false 0 0 0) wrong) refused
+    let refused = placeOf HEADER n 0 0 false 0 0 0 in
+    let wrong = placeOf HEADER wrongHeader 0 0 false 0 0 0 in
+    pick (eqb n accepted) (pick (headerOk s) (placeOf HEADER accepted (past s (recordEnd s 0)) 0 false 0 0 0) wrong) refused

@@ -19,7 +19,7 @@ use Rattle.text.specs.declared.records.Parsed.{Parsed}
 use Rattle.text.specs.Records.{recordEnd, recordOf}
 use Rattle.listing.specs.declared.places.Place.{Place}
 use Rattle.listing.specs.declared.records.Looked.{Looked}
-use Rattle.listing.specs.Place.{END, place, more64, past, phaseAt}
+use Rattle.listing.specs.Place.{END, placeOf, more64, past, phaseAt}
 
 -- 12: "Grants must rise above the last taken (not refused) record's, else 12"
 abbrev pub notRising : ℕ
@@ -84,6 +84,6 @@ unfoldable pub placeAfter : List ℕ → Place → Looked → Answered → Place
 placeAfter s x l a =
     let f = l .fields in
     let ok = eqb (l .refusal) accepted in
-    place (phaseAfter s l) (x .refusal) (l .next) (more64 (x .number) 1)
+    placeOf (phaseAfter s l) (x .refusal) (l .next) (more64 (x .number) 1)
     (pick ok true (x .taken)) (pick ok (f .grant) (x .grant))
     (more64 (x .commits) (isSuccess (a .answer))) (more64 (x .cycles) (cyclesOf (a .counts)))

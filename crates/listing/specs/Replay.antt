@@ -11,7 +11,7 @@ use Rattle.listing.specs.declared.Replaying.{Replaying}
 use Rattle.listing.specs.declared.Piece.{Piece}
 use Rattle.listing.specs.declared.places.Place.{Place}
 use Rattle.listing.specs.Place.{beginAt}
-use Rattle.listing.specs.Pieces.{Carried}
+use Rattle.listing.specs.Pieces.{Filling}
 use Rattle.listing.specs.Listing.{Going, going, fillOf, listingFrom}
 
 abbrev pub replaying : Place → Machine → Replaying
@@ -20,27 +20,27 @@ replaying x m = record { place = x; machine = m }
 abbrev pub goingOf : Replaying → Going
 goingOf x = going (x .place) (cachesOf (x .machine))
 
-abbrev pub begun : List ℕ → Made → Replaying
-begun s m = replaying (beginAt s (m .refusal)) (m .machine)
+abbrev pub beginOn : List ℕ → Made → Replaying
+beginOn s m = replaying (beginAt s (m .refusal)) (m .machine)
 
 -- "memory zero"
 unfoldable pub beginOf : List ℕ → Dims → Replaying
-beginOf s d = begun s (makeOf d (replicate (d .words) 0))
+beginOf s d = beginOn s (makeOf d (replicate (d .words) 0))
 
 -- a piece's answer, and what the buffer then holds
-pub record Left : Type 0 where
+pub record PieceLeft : Type 0 where
   pub piece : Piece
   pub buffer : List ℕ
 
-abbrev pub leftBy : Piece → List ℕ → Left
-leftBy r o = record { piece = r; buffer = o }
+abbrev pub pieceLeftBy : Piece → List ℕ → PieceLeft
+pieceLeftBy r o = record { piece = r; buffer = o }
 
-abbrev pub left : Dims → Carried Going → Left
-left d c =
-    leftBy (record { used = c .used; replaying = replaying (c .state .place) (machineOf d (c .state .caches)) }) (c .buffer)
+abbrev pub pieceLeft : Dims → Filling Going → PieceLeft
+pieceLeft d c =
+    pieceLeftBy (record { used = c .used; replaying = replaying (c .state .place) (machineOf d (c .state .caches)) }) (c .buffer)
 
-unfoldable pub nextPiece : List ℕ → Replaying → List ℕ → Left
-nextPiece s x o = left (x .machine .dims) (fillOf s (x .machine .dims) (goingOf x) o)
+unfoldable pub nextPiece : List ℕ → Replaying → List ℕ → PieceLeft
+nextPiece s x o = pieceLeft (x .machine .dims) (fillOf s (x .machine .dims) (goingOf x) o)
 
 -- the whole listing of a text on a machine of these dimensions
 unfoldable pub listing : Dims → List ℕ → List ℕ

@@ -10,7 +10,7 @@ use rules::Machine;
 ghost use mathlib.Core.Path.{_≡_};
 ghost use Prim.Native.Nat.{_≤_};
 ghost use Rattle.rules.specs.Making.{dims};
-ghost use Rattle.listing.specs.Replay.{leftBy, beginOf, nextPiece};
+ghost use Rattle.listing.specs.Replay.{pieceLeftBy, beginOf, nextPiece};
 ghost use Rattle.rules.specs.Lent.{before, after};
 
 // What stands between two pieces.
@@ -52,7 +52,7 @@ pub fn begin(s: &[u8], processors: usize, words: usize, lines: usize, entries: u
 }
 
 pub fn next_piece(s: &[u8], out: &mut [u8], x: Replaying) -> Piece
-    ensures { λ r. ⌜ leftBy r (after out) ≡ nextPiece (before s) x (before out) ⌝ }
+    ensures { λ r. ⌜ pieceLeftBy r (after out) ≡ nextPiece (before s) x (before out) ⌝ }
 {
     let first = x.place;
     let m = x.machine;

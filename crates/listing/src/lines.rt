@@ -9,15 +9,15 @@ ghost use Prim.Native.Nat.{_+_, _≤_};
 ghost use lib.ListN.{length};
 ghost use Rattle.entry.specs.Answer.{answerName};
 ghost use Rattle.text.specs.Quoted.{bytes};
-ghost use Rattle.text.specs.Writing.{written, putOf};
-ghost use Rattle.listing.specs.Lines.{mostLine, shown, answerLine, endLine, headerLine};
+ghost use Rattle.text.specs.Writing.{filled, putOf};
+ghost use Rattle.listing.specs.Lines.{mostLine, printed, answerLine, endLine, headerLine};
 ghost use Rattle.rules.specs.Lent.{before, after};
 
 // No line is longer.
 pub(crate) const LINE_MOST: usize = 72;
 
 fn put_name(out: &mut [u8], at: usize, answer: Answer) -> usize
-    ensures { λ r. ⌜ written r (after out) ≡ putOf (bytes (answerName answer)) (written at (before out)) ⌝ }
+    ensures { λ r. ⌜ filled r (after out) ≡ putOf (bytes (answerName answer)) (filled at (before out)) ⌝ }
 {
     match answer {
         Answer::Value(_) => put_bytes(out, at, b"VALUE"),
@@ -32,8 +32,8 @@ fn put_name(out: &mut [u8], at: usize, answer: Answer) -> usize
 }
 
 // A refusal shows its number, every other answer its value.
-fn shown(answer: Answer) -> u64
-    ensures { λ r. ⌜ r ≡ shown answer ⌝ }
+fn printed(answer: Answer) -> u64
+    ensures { λ r. ⌜ r ≡ printed answer ⌝ }
 {
     match answer {
         Answer::Value(v) => v as u64,
@@ -49,7 +49,7 @@ fn shown(answer: Answer) -> u64
 
 pub(crate) fn write_answer(out: &mut [u8], at: usize, number: u64, told: Answered) -> usize
     requires { ⌜ at + mostLine ≤ length (now out) ⌝ }
-    ensures { λ r. ⌜ written r (after out) ≡ putOf (answerLine number told) (written at (before out)) ⌝ }
+    ensures { λ r. ⌜ filled r (after out) ≡ putOf (answerLine number told) (filled at (before out)) ⌝ }
 {
     let answer = told.answer;
     let counts = told.counts;
@@ -57,7 +57,7 @@ pub(crate) fn write_answer(out: &mut [u8], at: usize, number: u64, told: Answere
     let b = put_bytes(out, a, b",");
     let c = put_name(out, b, answer);
     let d = put_bytes(out, c, b",");
-    let e = put_number(out, d, shown(answer));
+    let e = put_number(out, d, printed(answer));
     let f = put_bytes(out, e, b",");
     let g = put_number(out, f, counts.cycles());
     put_bytes(out, g, b"\r\n")
@@ -65,7 +65,7 @@ pub(crate) fn write_answer(out: &mut [u8], at: usize, number: u64, told: Answere
 
 pub(crate) fn write_end(out: &mut [u8], at: usize, commits: u64, cycles: u64) -> usize
     requires { ⌜ at + mostLine ≤ length (now out) ⌝ }
-    ensures { λ r. ⌜ written r (after out) ≡ putOf (endLine commits cycles) (written at (before out)) ⌝ }
+    ensures { λ r. ⌜ filled r (after out) ≡ putOf (endLine commits cycles) (filled at (before out)) ⌝ }
 {
     let a = put_bytes(out, at, b"END,COMMITTED,");
     let b = put_number(out, a, commits);
@@ -75,7 +75,7 @@ pub(crate) fn write_end(out: &mut [u8], at: usize, commits: u64, cycles: u64) ->
 }
 
 pub(crate) fn write_header(out: &mut [u8], at: usize) -> usize
-    ensures { λ r. ⌜ written r (after out) ≡ putOf headerLine (written at (before out)) ⌝ }
+    ensures { λ r. ⌜ filled r (after out) ≡ putOf headerLine (filled at (before out)) ⌝ }
 {
     put_bytes(out, at, b"record,answer,value,bus\r\n")
 }

@@ -27,8 +27,8 @@ ghost use lib.Dec.{leb};
 ghost use lib.ListN.{length};
 ghost use Rattle.rules.specs.State.{Caches};
 ghost use Rattle.listing.specs.Lines.{mostLine};
-ghost use Rattle.listing.specs.Pieces.{carried};
-ghost use Rattle.listing.specs.Listing.{going, doRecord, doOther, doLine, wrote, fillOf};
+ghost use Rattle.listing.specs.Pieces.{filling};
+ghost use Rattle.listing.specs.Listing.{going, doRecord, doOther, doLine, wroteLine, fillOf};
 ghost use Rattle.rules.specs.Lent.{before, after, lent, returned};
 
 // Where the replay stands, and how much of the buffer is written.
@@ -49,7 +49,7 @@ fn do_record(
     x: Place,
 ) -> Filled
     requires { ⌜ used + mostLine ≤ length (now out) ⌝ }
-    ensures { λ r. ⌜ carried (going (r .place) (returned memory lines entries flags)) (r .used) (after out) ≡ wrote (doRecord (before s) d x (lent memory lines entries flags)) used (before out) ⌝ }
+    ensures { λ r. ⌜ filling (going (r .place) (returned memory lines entries flags)) (r .used) (after out) ≡ wroteLine (doRecord (before s) d x (lent memory lines entries flags)) used (before out) ⌝ }
 {
     let l = look_at(s, d, x);
     let told = answer_of(memory, lines, entries, flags, d, l);
@@ -65,7 +65,7 @@ fn do_record(
 // The header, a refusal before any record, or the end.
 fn do_other(s: &[u8], out: &mut [u8], used: usize, x: Place) -> Filled
     requires { ⌜ used + mostLine ≤ length (now out) ⌝ }
-    ensures { λ r. ⌜ ((c : Caches) → carried (going (r .place) c) (r .used) (after out) ≡ wrote (doOther (before s) x c) used (before out)) ⌝ }
+    ensures { λ r. ⌜ ((c : Caches) → filling (going (r .place) c) (r .used) (after out) ≡ wroteLine (doOther (before s) x c) used (before out)) ⌝ }
 {
     if x.phase == HEADER {
         let k = write_header(out, used);
@@ -105,7 +105,7 @@ fn do_line(
     x: Place,
 ) -> Filled
     requires { ⌜ used + mostLine ≤ length (now out) ⌝ }
-    ensures { λ r. ⌜ carried (going (r .place) (returned memory lines entries flags)) (r .used) (after out) ≡ wrote (doLine (before s) d x (lent memory lines entries flags)) used (before out) ⌝ }
+    ensures { λ r. ⌜ filling (going (r .place) (returned memory lines entries flags)) (r .used) (after out) ≡ wroteLine (doLine (before s) d x (lent memory lines entries flags)) used (before out) ⌝ }
 {
     if x.phase == RECORD {
         return do_record(s, out, used, memory, lines, entries, flags, d, x);
@@ -132,7 +132,7 @@ pub(crate) fn fill(
     d: Dims,
     first: Place,
 ) -> Filled
-    ensures { λ r. ⌜ carried (going (r .place) (returned memory lines entries flags)) (r .used) (after out) ≡ fillOf (before s) d (going first (lent memory lines entries flags)) (before out) ⌝ }
+    ensures { λ r. ⌜ filling (going (r .place) (returned memory lines entries flags)) (r .used) (after out) ≡ fillOf (before s) d (going first (lent memory lines entries flags)) (before out) ⌝ }
 {
     let room = out.len();
     let mut x = first;

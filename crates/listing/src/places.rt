@@ -4,7 +4,7 @@ use text::names::text_is;
 use text::records::record_end;
 ghost use mathlib.Core.Path.{_≡_};
 ghost use mathlib.Core.Bool.{false};
-ghost use Rattle.listing.specs.Place.{HEADER, place, withPhase, more64, past, phaseAt, firstPhase, beginAt};
+ghost use Rattle.listing.specs.Place.{HEADER, placeOf, withPhase, more64, past, phaseAt, firstPhase, beginAt};
 ghost use Rattle.rules.specs.Lent.{before};
 
 // What the next line is, or that none is left.
@@ -88,7 +88,7 @@ pub(crate) fn with_phase(x: Place, phase: u8) -> Place
 }
 
 fn first_place(refusal: u8, at: usize) -> Place
-    ensures { λ r. ⌜ r ≡ place HEADER refusal at 0 false 0 0 0 ⌝ }
+    ensures { λ r. ⌜ r ≡ placeOf HEADER refusal at 0 false 0 0 0 ⌝ }
 {
     Place {
         phase: HEADER,

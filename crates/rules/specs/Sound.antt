@@ -29,7 +29,7 @@ abbrev pub Held : Entry → Type 0
 Held e = e .state ≢ INVALID
 
 -- e is one of p's regular lines or transactional entries
-pub record Copy (s : Caches) (p : ℕ) (e : Entry) : Type 0 where
+pub record HasCopy (s : Caches) (p : ℕ) (e : Entry) : Type 0 where
   pub slot : ℕ
   pub inside : slot < 64
   pub here : (lineAt s p slot ≡ e) ⊎ (entryAt s p slot ≡ e)
@@ -52,13 +52,13 @@ pub record Sound (d : Dims) (s : Caches) : Type 0 where
   pub line-codes : (p i : ℕ) → p < 8 → i < 64 → (getD (s .lines) (place p i) 0 < packedEnd) × (lineAt s p i .tag ≡ INVALID)
   pub entry-codes : (p i : ℕ) → p < 8 → i < 64 → getD (s .entries) (place p i) 0 < packedEnd
   pub flag-codes : (p : ℕ) → p < 8 → (activeFlag s p ≤ trueFlag) × (statusFlag s p ≤ trueFlag)
-  pub words : (p : ℕ) (e : Entry) → p < 8 → Copy s p e → Held e → e .word < d .words
+  pub words : (p : ℕ) (e : Entry) → p < 8 → HasCopy s p e → Held e → e .word < d .words
   -- "a regular line holds only its own words"
   pub home : (p i : ℕ) → p < 8 → i < 64 → Held (lineAt s p i) → lineAt s p i .word % (d .lines) ≡ i
   -- "transactional state and tag are INVALID together"
   pub together : (p i : ℕ) → p < 8 → i < 64 → Held (entryAt s p i) → entryAt s p i .tag ≢ INVALID
   -- "an invalid line or entry is zero throughout"
-  pub zero : (p : ℕ) (e : Entry) → p < 8 → Copy s p e → e .state ≡ INVALID → e ≡ noEntry
+  pub zero : (p : ℕ) (e : Entry) → p < 8 → HasCopy s p e → e .state ≡ INVALID → e ≡ noEntry
   -- "within a processor a word has at most one entry among regular, NORMAL and tentative"
   pub regular-or-other : (p i j : ℕ) → p < 8 → i < 64 → j < 64 → Held (lineAt s p i) → Held (entryAt s p j) →
       entryAt s p j .tag ≢ BACKUP → lineAt s p i .word ≢ entryAt s p j .word
@@ -74,10 +74,10 @@ pub record Sound (d : Dims) (s : Caches) : Type 0 where
   pub tentative-flags : (p i : ℕ) → p < 8 → i < 64 → entryAt s p i .tag ≡ TENTATIVE →
       (activeFlag s p ≡ trueFlag) × (statusFlag s p ≡ trueFlag)
   -- "RESERVED or DIRTY anywhere means no other processor has the word"
-  pub exclusive : (p q : ℕ) (e f : Entry) → p < 8 → q < 8 → p ≢ q → Copy s p e → Copy s q f → RESERVED ≤ e .state → Held f →
+  pub exclusive : (p q : ℕ) (e f : Entry) → p < 8 → q < 8 → p ≢ q → HasCopy s p e → HasCopy s q f → RESERVED ≤ e .state → Held f →
       f .word ≢ e .word
   -- "VALID and RESERVED data equal memory"
-  pub clean : (p : ℕ) (e : Entry) → p < 8 → Copy s p e → Held e → e .state ≢ DIRTY → e .«data» ≡ wordAt s (e .word)
+  pub clean : (p : ℕ) (e : Entry) → p < 8 → HasCopy s p e → Held e → e .state ≢ DIRTY → e .«data» ≡ wordAt s (e .word)
   -- "a backup's state is not above its tentative entry's (VALID, RESERVED, DIRTY ascending)"
   pub backup-below : (p i j : ℕ) → p < 8 → i < 64 → j < 64 → entryAt s p i .tag ≡ BACKUP → entryAt s p j .tag ≡ TENTATIVE →
       entryAt s p i .word ≡ entryAt s p j .word → entryAt s p i .state ≤ entryAt s p j .state

@@ -21,10 +21,10 @@ use Rattle.rules.specs.Rollback.{rollback}
 use Rattle.rules.specs.Snoop.{snoop, refuses}
 use Rattle.rules.specs.Transact.{finish, busy, hit}
 use Rattle.theory.specs.View.{valid, reserved, Back, tentative, View}
-use Rattle.theory.specs.Change.{At}
+use Rattle.theory.specs.Change.{OnlyWord}
 use Rattle.theory.proofs.Cache.{Slot, is-self, backOf, back-is, Line}
 use Rattle.theory.proofs.Updates.{AllTidy, turned}
-use Rattle.theory.specs.Protocol.{Kind, reading, owning, gets, puts, fails, Opened, Held, has-it, raises, Denied, no-raise, enough}
+use Rattle.theory.specs.Protocol.{Kind, reading, owning, gets, puts, fails, Opened, Obtained, has-it, raises, Denied, no-raise, enough}
 use Rattle.theory.proofs.Refine.{same-refl}
 use Rattle.serial.specs.Shown.{byAccess}
 use Rattle.serial.specs.Taking.{valueEnd}
@@ -73,7 +73,7 @@ module _ {d : Dims} {s : Caches} (F : Fit d s) (p : ℕ) (lp : p < d .processors
     to-fits = inr (record { processor = lp; slot = li; held = nx; tag = λ z. omega arith; word = word-in })
 
     pub turn : AllTidy (d .entries) (home d) (decoded d (withEntry s p i (entry x TENTATIVE w v)))
-        × At p w (seen d s) (seen d (withEntry s p i (entry x TENTATIVE w v)))
+        × OnlyWord p w (seen d s) (seen d (withEntry s p i (entry x TENTATIVE w v)))
         × (seen d (withEntry s p i (entry x TENTATIVE w v)) .copy w p ≡ tentative (stateOf x) v (backing F p lp w) (eqb x DIRTY))
     turn =
         let g = turned (d .entries) (home d) (F .tidy) li (set-slot (F .frame) (memory-same (F .frame) w) p i lp (entry x TENTATIVE w v) to-range li)
@@ -97,14 +97,14 @@ module _ {d : Dims} (a : Access) (p : ℕ) (lp : p < d .processors) (w v : ℕ) 
 
   -- p holds w tentatively, at i: the answer, or the store
   pub finished : {s : Caches} (F : Fit d s) (i : ℕ) (li : i < d .entries) → entryAt s p i .tag ≡ TENTATIVE → entryAt s p i .word ≡ w → (c : Counts)
-      → Held (kind a) (d .processors) p w S₁ (seen d s) → Does d S (byAccess p w v) (finish (number a) p i v c s)
+      → Obtained (kind a) (d .processors) p w S₁ (seen d s) → Does d S (byAccess p w v) (finish (number a) p i v c s)
   unfolding finish
   finished {s} F i li ht hw c H = by a H
     where
       as-stored : stored (entryAt s p i) v ≡ entry DIRTY TENTATIVE w v
       as-stored = ap (λ (t : ℕ). entry DIRTY t (entryAt s p i .word) v) ht ∙ ap (λ (u : ℕ). entry DIRTY TENTATIVE u v) hw
 
-      by : (a : Access) → Held (kind a) (d .processors) p w S₁ (seen d s) → Does d S (byAccess p w v) (finish (number a) p i v c s)
+      by : (a : Access) → Obtained (kind a) (d .processors) p w S₁ (seen d s) → Does d S (byAccess p w v) (finish (number a) p i v c s)
       by lt H = record { fit = F; step = gets reading O H (copy-is F p lp w i li ht hw) }
       by ltx H = record { fit = F; step = gets owning O H (copy-is F p lp w i li ht hw) }
       by st H =

@@ -10,7 +10,7 @@ use Rattle.laws.specs.Choice.{pick}
 use Rattle.entry.specs.declared.Entry.{Entry}
 use Rattle.entry.specs.Numbers.{INVALID, RESERVED, DIRTY, NORMAL, BACKUP, TENTATIVE}
 use Rattle.rules.specs.declared.Dims.{Dims}
-use Rattle.theory.specs.View.{LineState, valid, reserved, dirty, above, isDirty}
+use Rattle.theory.specs.View.{LineState, valid, reserved, dirty, above, dirtyState}
 use Rattle.theory.proofs.Cache.{slotNormal, slotBackup, slotTentative, blank, filled}
 use Rattle.serial.proofs.Decode.{stateOf, slotBy, slotOf, lineOf}
 use Rattle.serial.proofs.Frame.{EntryFits, Fits}
@@ -75,10 +75,10 @@ above-code (suc (suc zero)) l n = refl
 above-code (suc (suc (suc zero))) l n = refl
 above-code (suc (suc (suc (suc s)))) l n = absurd (omega arith)
 
-pub dirty-code : (s : ℕ) → eqb s DIRTY ≡ isDirty (stateOf s)
+pub dirty-code : (s : ℕ) → eqb s DIRTY ≡ dirtyState (stateOf s)
 dirty-code s = by (eqb s DIRTY) (eqb s RESERVED)
   where
-    by : (x y : Bool) → x ≡ isDirty (pick x dirty (pick y reserved valid))
+    by : (x y : Bool) → x ≡ dirtyState (pick x dirty (pick y reserved valid))
     by true y = refl
     by false true = refl
     by false false = refl

@@ -15,7 +15,7 @@ use Rattle.rules.specs.Settled.{settledIn}
 use Rattle.rules.specs.Sound.{Sound}
 use Rattle.rules.specs.Step.{takeStep, settledOf, stepOf}
 use Rattle.theory.specs.Event.{Event}
-use Rattle.theory.specs.Plain.{Serial, Opaque, after, unlogged}
+use Rattle.theory.specs.Plain.{Serial, Opaque, afterEvents, unlogged}
 use Rattle.theory.proofs.Settled.{settled, Coherent, coherent→agree}
 use Rattle.theory.specs.Protocol.{Step}
 use Rattle.theory.proofs.History
@@ -74,7 +74,7 @@ pub record Agreed (d : Dims) (memory : List ℕ) (ds : List Did) (m : Machine) :
   pub dims : m .dims ≡ d
   pub sound : Sound (m .dims) (cachesOf m)
   pub values : Values (m .memory)
-  pub settled-value : (w : ℕ) → settledIn (m .dims) w (cachesOf m) ≡ after (events ds) (start memory) .val w
+  pub settled-value : (w : ℕ) → settledIn (m .dims) w (cachesOf m) ≡ afterEvents (events ds) (start memory) .val w
 
 module _ (d : Dims) (memory : List ℕ) (values : Values memory) (ok : makeOf d memory .refusal ≡ accepted) (ds : List Did) (m : Machine)
     (t : Took (makeOf d memory .machine) ds m) where
@@ -99,19 +99,19 @@ module _ (d : Dims) (memory : List ℕ) (values : Values memory) (ok : makeOf d 
       -- what the theory says of the start memory M
       Known : List Event → Caches → (ℕ → ℕ) → Type 0
       Known es s M =
-          Serial es (unlogged M) × Opaque es (unlogged M) × ((w : ℕ) → settled (d .processors) (seen d s) w ≡ after es (unlogged M) .val w)
+          Serial es (unlogged M) × Opaque es (unlogged M) × ((w : ℕ) → settled (d .processors) (seen d s) w ≡ afterEvents es (unlogged M) .val w)
           × Coherent (d .processors) (seen d s)
 
   -- Every LOAD is answered by the plain memory at its place, the reads of every transaction that commits replay on it whole at the commit, and
   -- at the end each word's settled value is the plain memory's.
-  pub demand-3 : Serial (events ds) (start memory) × ((w : ℕ) → w < d .words → settledOf m w ≡ Value (after (events ds) (start memory) .val w))
+  pub demand-3 : Serial (events ds) (start memory) × ((w : ℕ) → w < d .words → settledOf m w ≡ Value (afterEvents (events ds) (start memory) .val w))
   unfolding settledOf
   demand-3 = (a .serial, value)
     where
       a : Agreed d memory ds m
       a = agreed
 
-      value : (w : ℕ) → w < d .words → settledOf m w ≡ Value (after (events ds) (start memory) .val w)
+      value : (w : ℕ) → w < d .words → settledOf m w ≡ Value (afterEvents (events ds) (start memory) .val w)
       value w l =
           let l′ : w < m .dims .words = subst⁻¹ (λ (z : Dims). w < z .words) (a .dims) l in
           rw (sound-true (m .dims) (cachesOf m) (a .sound), lt-ltb w (m .dims .words) l′) (ap Value (a .settled-value w))

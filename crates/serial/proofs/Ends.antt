@@ -158,7 +158,7 @@ module _ {d : Dims} {s : Caches} (F : Fit d s) (p : ℕ) (lp : p < d .processors
       T = ended-flags (F .frame .flags) (F .frame .size .processors) p lp
 
       all : AllTidy (d .entries) (home d) (decoded d (mapped committed (range-ends BACKUP TENTATIVE) slotCommit slot-committed T))
-          × OnlyProcessor View.committed p (seen d s) (seen d (mapped committed (range-ends BACKUP TENTATIVE) slotCommit slot-committed T))
+          × OnlyProcessor View.committedCopy p (seen d s) (seen d (mapped committed (range-ends BACKUP TENTATIVE) slotCommit slot-committed T))
       all = slots-committed (d .entries) (home d) p (F .tidy) (maps committed (range-ends BACKUP TENTATIVE) slotCommit slot-committed T)
 
       by : (b : Bool) → TSTATUS s p ≡ b

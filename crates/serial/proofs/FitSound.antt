@@ -17,8 +17,8 @@ use Rattle.rules.specs.State.{Caches, lineAt, entryAt, activePlace, statusPlace
 use Rattle.rules.specs.Own.{home}
 use Rattle.rules.specs.Making.{dimsRefusal}
 use Rattle.rules.specs.Refusals.{accepted}
-use Rattle.rules.specs.Sound.{Sound, Held, Copy, Tentative}
-use Rattle.theory.specs.View.{LineState, regular, above, isDirty, has, exclusive, below}
+use Rattle.rules.specs.Sound.{Sound, Held, HasCopy, Tentative}
+use Rattle.theory.specs.View.{LineState, regular, above, dirtyState, has, exclusive, below}
 use Rattle.theory.specs.View
 use Rattle.theory.proofs.OneWord.{below-above}
 use Rattle.theory.proofs.Cache.{filled, is-self, mainOn, backOn, regularOn}
@@ -52,7 +52,7 @@ pub record Shows (S : View.View) (p : ℕ) (e : Entry) : Type 0 where
   pub owned : RESERVED ≤ e .state → exclusive (S .copy (e .word) p) ≡ true
   pub checked : e .state ≢ DIRTY → e .«data» ≡ S .memory (e .word)
 
-clean-state : (x : ℕ) → x ≢ DIRTY → isDirty (stateOf x) ≡ false
+clean-state : (x : ℕ) → x ≢ DIRTY → dirtyState (stateOf x) ≡ false
 clean-state x n = sym (dirty-code x) ∙ ne-eqb x DIRTY n
 
 module _ {d : Dims} {s : Caches} (F : Fit d s) (C : Coherent (d .processors) (seen d s)) where
@@ -125,7 +125,7 @@ module _ {d : Dims} {s : Caches} (F : Fit d s) (C : Coherent (d .processors) (se
     pub shows : Shows (seen d s) p e
     pub word : e .word < d .words
 
-  known : (p : ℕ) (e : Entry) → p < 8 → Copy s p e → Held e → Known p e
+  known : (p : ℕ) (e : Entry) → p < 8 → HasCopy s p e → Held e → Known p e
   known p e lp c h = by (c .here)
     where
       by : (lineAt s p (c .slot) ≡ e) ⊎ (entryAt s p (c .slot) ≡ e) → Known p e
@@ -136,7 +136,7 @@ module _ {d : Dims} {s : Caches} (F : Fit d s) (C : Coherent (d .processors) (se
           let f = held-fits (entry-each p (c .slot) lp (c .inside)) (λ z. h (sym (ap (λ (x : Entry). x .state) q) ∙ z)) in
           subst (Known p) q (record { processor = f .processor; shows = entry-shows p (c .slot) f; word = f .word })
 
-  empty : (p : ℕ) (e : Entry) → p < 8 → Copy s p e → e .state ≡ INVALID → e ≡ noEntry
+  empty : (p : ℕ) (e : Entry) → p < 8 → HasCopy s p e → e .state ≡ INVALID → e ≡ noEntry
   empty p e lp c z = by (c .here)
     where
       by : (lineAt s p (c .slot) ≡ e) ⊎ (entryAt s p (c .slot) ≡ e) → e ≡ noEntry
@@ -209,7 +209,7 @@ module _ {d : Dims} {s : Caches} (F : Fit d s) (C : Coherent (d .processors) (se
       code-below (entryAt s p i .state) (entryAt s p j .state) (omega arith) (omega arith) (f .held) (g .held)
       (subst (λ (x : LineState). below (stateOf (entryAt s p i .state)) x) q (rw (b .3) at (C .order (entryAt s p j .word) p)))
 
-  exclusive-clause : (p q : ℕ) (e f : Entry) → p < 8 → q < 8 → p ≢ q → Copy s p e → Copy s q f → RESERVED ≤ e .state → Held f → f .word ≢ e .word
+  exclusive-clause : (p q : ℕ) (e f : Entry) → p < 8 → q < 8 → p ≢ q → HasCopy s p e → HasCopy s q f → RESERVED ≤ e .state → Held f → f .word ≢ e .word
   exclusive-clause p q e f lp lq n ce cf h hf z =
       let a = known p e lp ce (λ y. omega arith) in
       let b = known q f lq cf hf in

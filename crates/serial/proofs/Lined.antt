@@ -18,7 +18,7 @@ use Rattle.rules.specs.Own.{home, holds}
 use Rattle.rules.specs.Snoop.{writes, writtenBack, clearLine}
 use Rattle.rules.specs.Transact.{dropLine}
 use Rattle.theory.specs.View.{LineState, none, regular}
-use Rattle.theory.specs.Change.{At}
+use Rattle.theory.specs.Change.{OnlyWord}
 use Rattle.theory.proofs.Cache.{Slot, Line, vacant, blank, filled, mainOn, look}
 use Rattle.theory.proofs.Slots.{look-none}
 use Rattle.theory.proofs.Lines.{lineIs, line-main, look-line}
@@ -50,10 +50,10 @@ module _ {d : Dims} {s : Caches} (F : Fit d s) (p : ℕ) (lp : p < d .processors
   change : LineSet (d .entries) (home d) p h (lineOf to) u (decoded d s) (decoded d (lineOn s m p h to))
   change = set-line (F .frame) M p h lp to rt in-lines
 
-  goes : AllTidy (d .entries) (home d) (decoded d (lineOn s m p h to)) × At p u (seen d s) (seen d (lineOn s m p h to))
+  goes : AllTidy (d .entries) (home d) (decoded d (lineOn s m p h to)) × OnlyWord p u (seen d s) (seen d (lineOn s m p h to))
   goes = lined (d .entries) (home d) (F .tidy) hu change refl old yt free
 
-  pub lined-at : At p u (seen d s) (seen d (lineOn s m p h to))
+  pub lined-at : OnlyWord p u (seen d s) (seen d (lineOn s m p h to))
   lined-at = goes .1
 
   pub lined-fit : Fit d (lineOn s m p h to)

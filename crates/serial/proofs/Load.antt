@@ -18,7 +18,7 @@ use Rattle.rules.specs.Own.{home, holds, findEntry}
 use Rattle.rules.specs.Rollback.{rollback}
 use Rattle.rules.specs.Snoop.{clearLine, plainRequest}
 use Rattle.rules.specs.Load
-use Rattle.theory.specs.View.{LineState, Back, bare, backup, Copy, none, regular, normal, tentative, above, isTentative, rolledBack}
+use Rattle.theory.specs.View.{LineState, Back, bare, backup, Copy, none, regular, normal, tentative, above, isTentative, rolledCopy}
 use Rattle.theory.proofs.Cache.{mainOn}
 use Rattle.theory.proofs.Slots.{look-none}
 use Rattle.theory.proofs.Lines.{lineIs}
@@ -101,7 +101,7 @@ module _ {d : Dims} {s : Caches} (F : Fit d s) (p : ℕ) (lp : p < d .processors
           (own-copy (F .frame .size) p (bus .0 .own) w ∙ freed-none (ev .freed) w gone) .1
 
 -- after a rollback, p's copy is what its backup was
-unroll-normal : (k : Copy) {s : LineState} {d : ℕ} → isTentative k ≡ true → rolledBack k ≡ normal s d
+unroll-normal : (k : Copy) {s : LineState} {d : ℕ} → isTentative k ≡ true → rolledCopy k ≡ normal s d
     → (s₀ : LineState) × (d₀ : ℕ) × (t : Bool) × (k ≡ tentative s₀ d₀ (backup s d) t)
 unroll-normal none h e = absurd (false≢true h)
 unroll-normal (regular s d) h e = absurd (false≢true h)
@@ -109,14 +109,14 @@ unroll-normal (normal s d) h e = absurd (false≢true h)
 unroll-normal (tentative s d bare t) h e = let z : true ≡ false = cc in absurd (true≢false z)
 unroll-normal (tentative s d (backup r x) t) h e = (s, d, t, cc)
 
-unroll-none : (k : Copy) → isTentative k ≡ true → rolledBack k ≡ none → (s₀ : LineState) × (d₀ : ℕ) × (t : Bool) × (k ≡ tentative s₀ d₀ bare t)
+unroll-none : (k : Copy) → isTentative k ≡ true → rolledCopy k ≡ none → (s₀ : LineState) × (d₀ : ℕ) × (t : Bool) × (k ≡ tentative s₀ d₀ bare t)
 unroll-none none h e = absurd (false≢true h)
 unroll-none (regular s d) h e = absurd (false≢true h)
 unroll-none (normal s d) h e = absurd (false≢true h)
 unroll-none (tentative s d bare t) h e = (s, d, t, refl)
 unroll-none (tentative s d (backup r x) t) h e = let z : true ≡ false = cc in absurd (true≢false z)
 
-rolled-regular : (k : Copy) → isTentative k ≡ true → isRegular (rolledBack k) ≡ false
+rolled-regular : (k : Copy) → isTentative k ≡ true → isRegular (rolledCopy k) ≡ false
 rolled-regular none h = refl
 rolled-regular (regular s d) h = absurd (false≢true h)
 rolled-regular (normal s d) h = refl

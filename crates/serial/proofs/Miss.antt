@@ -22,7 +22,7 @@ use Rattle.rules.specs.Rollback.{rollback}
 use Rattle.rules.specs.Snoop.{writes, clearEntry, snoop, refuses}
 use Rattle.rules.specs.Transact.{finish, busy, clearBackup, fillBackup, fill, request, missAt, miss}
 use Rattle.theory.specs.View.{Back, bare, backup, none, tentative, View}
-use Rattle.theory.specs.Change.{At}
+use Rattle.theory.specs.Change.{OnlyWord}
 use Rattle.theory.proofs.Moves.{at-trans}
 use Rattle.theory.proofs.Cache.{slotBackup, slotTentative, backOn}
 use Rattle.theory.proofs.Looks.{none-backs}
@@ -45,7 +45,7 @@ use Rattle.serial.proofs.Normal.{entry-range, entry-of}
 -- both entries receive the data x in state c
 pub record Got (d : Dims) (p w c x i : ℕ) (s s′ : Caches) : Type 0 where
   pub fit : Fit d s′
-  pub at-w : At p w (seen d s) (seen d s′)
+  pub at-w : OnlyWord p w (seen d s) (seen d s′)
   pub back : Back
   pub back-is : (back ≡ bare) ⊎ (back ≡ backup (stateOf c) x)
   pub here : seen d s′ .copy w p ≡ tentative (stateOf c) x back false
@@ -68,7 +68,7 @@ module _ {d : Dims} {s : Caches} (F : Fit d s) (p : ℕ) (lp : p < d .processors
   tentative-is : slotTentative (stateOf c) w x (eqb c DIRTY) ≡ slotTentative (stateOf c) w x false
   tentative-is = ap (slotTentative (stateOf c) w x) clean
 
-  en : AllTidy (d .entries) (home d) (decoded d sT) × At p w (seen d s) (seen d sT) × (seen d sT .copy w p ≡ tentative (stateOf c) x bare false)
+  en : AllTidy (d .entries) (home d) (decoded d sT) × OnlyWord p w (seen d s) (seen d sT) × (seen d sT .copy w p ≡ tentative (stateOf c) x bare false)
   en = entered (d .entries) (home d) (F .tidy) li setT (slot-at F p lp i li ∙ ap slotOf free-i) tentative-is gone
 
   FT : Fit d sT
@@ -109,7 +109,7 @@ module _ {d : Dims} {s : Caches} (F : Fit d s) (p : ℕ) (lp : p < d .processors
       | no n ↦ rw (setT .else j n) (none-backs (d .entries) (home d) (decoded d s .slot p) (decoded d s .line p) (F .tidy p) w gone j l)
     ]
 
-    bu : AllTidy (d .entries) (home d) (decoded d sB) × At p w (seen d sT) (seen d sB)
+    bu : AllTidy (d .entries) (home d) (decoded d sB) × OnlyWord p w (seen d sT) (seen d sB)
         × (seen d sB .copy w p ≡ tentative (stateOf c) x (backup (stateOf c) x) false)
     bu =
         backs-up (d .entries) (home d) (FT .tidy) lb setB (setT .else b apart ∙ (slot-at F p lp b lb ∙ ap slotOf free-b)) refl i li

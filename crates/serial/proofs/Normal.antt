@@ -21,7 +21,7 @@ use Rattle.rules.specs.Own.{home, freeSlot}
 use Rattle.rules.specs.Snoop.{writes, writtenBack, clearEntry}
 use Rattle.rules.specs.Transact.{openNormal}
 use Rattle.theory.specs.View.{LineState, valid, reserved, dirty, bare, backup, normal, tentative, dried}
-use Rattle.theory.specs.Change.{At}
+use Rattle.theory.specs.Change.{OnlyWord}
 use Rattle.theory.proofs.Moves.{at-trans}
 use Rattle.theory.proofs.Cache.{vacant, slotNormal, slotBackup, slotTentative, mainOn, backOn}
 use Rattle.theory.proofs.Cache.{tentativeOn, is-self, unbacked, main-tentative, not-true}
@@ -75,7 +75,7 @@ module _ {d : Dims} {s : Caches} (F : Fit d s) (p : ℕ) (lp : p < d .processors
     to-set = set-slot (F .frame) M p i lp (entry x TENTATIVE w v) to-range li
 
     pub to-turn : AllTidy (d .entries) (home d) (decoded d (entryOn s m p i (entry x TENTATIVE w v)))
-        × At p w (seen d s) (seen d (entryOn s m p i (entry x TENTATIVE w v)))
+        × OnlyWord p w (seen d s) (seen d (entryOn s m p i (entry x TENTATIVE w v)))
         × (seen d s .copy w p ≡ normal (stateOf (entryAt s p i .state)) (entryAt s p i .«data»))
         × (seen d (entryOn s m p i (entry x TENTATIVE w v)) .copy w p ≡ tentative (stateOf x) v bare (eqb x DIRTY))
     to-turn =
@@ -207,7 +207,7 @@ module _ {d : Dims} {s : Caches} (F : Fit d s) (p : ℕ) (lp : p < d .processors
         MA : Memory d sA w (sA .memory)
         MA = memory-same (FA .frame) w
 
-        kB : AllTidy (d .entries) (home d) (decoded d sB) × At p w (seen d sA) (seen d sB)
+        kB : AllTidy (d .entries) (home d) (decoded d sB) × OnlyWord p w (seen d sA) (seen d sB)
             × (seen d sA .copy w p ≡ normal (stateOf (entryAt sA p i .state)) (entryAt sA p i .«data»))
             × (seen d sB .copy w p ≡ tentative (stateOf x) v bare (eqb x DIRTY))
         kB = to-turn FA p lp w i li htA hwA MA x v lx held₀ lv
@@ -233,7 +233,7 @@ module _ {d : Dims} {s : Caches} (F : Fit d s) (p : ℕ) (lp : p < d .processors
         vacant-b : decoded d sB .slot p b ≡ vacant
         vacant-b = setB .else b apart ∙ (slot-at FA p lp b lb ∙ ap slotOf (EA .here))
 
-        bu : AllTidy (d .entries) (home d) (decoded d sC) × At p w (seen d sB) (seen d sC)
+        bu : AllTidy (d .entries) (home d) (decoded d sC) × OnlyWord p w (seen d sB) (seen d sC)
             × (seen d sC .copy w p ≡ tentative (stateOf x) v (backup (stateOf x) v) (eqb x DIRTY))
         bu = backs-up (d .entries) (home d) (FB .tidy) lb setC vacant-b refl i li (setB .here) loneB
 

@@ -79,18 +79,18 @@ not-above (tentative s d b t) h = absurd (true≢false h)
 
 -- whether q's copy stands against a cycle
 pub opposes-is : {d : Dims} {s : Caches} → Fit d s → (q : ℕ) → q < d .processors → (w : ℕ) (k : Kind) (c : ℕ) → Cycle k c
-    → opposes d w c q (s .entries) ≡ Protocol.refuses k (seen d s .copy w q)
+    → opposes d w c q (s .entries) ≡ Protocol.opposing k (seen d s .copy w q)
 unfolding opposes
 opposes-is {d} {s} F q lq w k c C = go (ltb i (d .entries)) refl
   where
     i : ℕ
     i = findEntry (s .entries) q (d .entries) TENTATIVE w
 
-    none-by : (k : Kind) → isTentative (seen d s .copy w q) ≡ false → false ≡ Protocol.refuses k (seen d s .copy w q)
+    none-by : (k : Kind) → isTentative (seen d s .copy w q) ≡ false → false ≡ Protocol.opposing k (seen d s .copy w q)
     none-by reading h = sym (not-above (seen d s .copy w q) h)
     none-by owning h = sym h
 
-    some-by : (k : Kind) → Cycle k c → i < d .entries → either (takes c) (leb RESERVED (entryAt s q i .state)) ≡ Protocol.refuses k (seen d s .copy w q)
+    some-by : (k : Kind) → Cycle k c → i < d .entries → either (takes c) (leb RESERVED (entryAt s q i .state)) ≡ Protocol.opposing k (seen d s .copy w q)
     some-by reading C l =
         let t = found-tag s q (d .entries) TENTATIVE w l in
         let f = tagged-fits (entry-fits F q lq i l) (λ z. omega arith) in
@@ -103,7 +103,7 @@ opposes-is {d} {s} F q lq w k c C = go (ltb i (d .entries)) refl
         ap (λ (b : Bool). either b (leb RESERVED (entryAt s q i .state))) (C .take) ∙ ap isTentative (sym h)
 
     go : (b : Bool) → ltb i (d .entries) ≡ b
-        → pick b (either (takes c) (leb RESERVED (entryAt s q i .state))) false ≡ Protocol.refuses k (seen d s .copy w q)
+        → pick b (either (takes c) (leb RESERVED (entryAt s q i .state))) false ≡ Protocol.opposing k (seen d s .copy w q)
     go true e = some-by k C (ltb-true i (d .entries) e)
     go false e = none-by k (no-tentative F q lq w (ltb-false i (d .entries) e))
 
@@ -120,7 +120,7 @@ module _ {d : Dims} {s : Caches} (F : Fit d s) (p w : ℕ) (k : Kind) (c : ℕ) 
       q : ℕ
       q = firstFrom (otherOpposes d p w c (s .entries)) 0 (d .processors)
 
-  pub is-free : refuses d p w c (s .entries) ≡ false → (q : ℕ) → q < d .processors → q ≢ p → Protocol.refuses k (seen d s .copy w q) ≡ false
+  pub is-free : refuses d p w c (s .entries) ≡ false → (q : ℕ) → q < d .processors → q ≢ p → Protocol.opposing k (seen d s .copy w q) ≡ false
   unfolding refuses firstOpposing
   is-free h q l n =
       sym (opposes-is F q l w k c C) ∙
@@ -149,13 +149,13 @@ module _ (d : Dims) (k : Kind) (c : ℕ) (C : Cycle k c) (p w : ℕ) (lp : p < d
   }
 
   roll-one : (q : ℕ) (s : Caches) → q < d .processors → Rolling d p s₀ s
-      → Rolling d p s₀ (rollOne d p w c q s) × RollIf (Protocol.refuses k) p w q (seen d s) (seen d (rollOne d p w c q s))
+      → Rolling d p s₀ (rollOne d p w c q s) × RollIf (Protocol.opposing k) p w q (seen d s) (seen d (rollOne d p w c q s))
   unfolding rollOne
   roll-one q s l R = go (eqb q p) (opposes d w c q (s .entries)) refl refl
     where
       go : (x y : Bool) → eqb q p ≡ x → opposes d w c q (s .entries) ≡ y
           → Rolling d p s₀ (pick (both (not x) y) (rollback d q s) s)
-          × RollIf (Protocol.refuses k) p w q (seen d s) (seen d (pick (both (not x) y) (rollback d q s) s))
+          × RollIf (Protocol.opposing k) p w q (seen d s) (seen d (pick (both (not x) y) (rollback d q s) s))
       go true y e f = (R, spared (inl (eqb-true q p e)) same-refl)
       go false true e f = (
         record { fit = rollback-fit (R .fit) q l; own = own-trans (R .own) (own-rolled q s l (eqb-false q p e) (R .fit)) },
@@ -164,8 +164,8 @@ module _ (d : Dims) (k : Kind) (c : ℕ) (C : Cycle k c) (p w : ℕ) (lp : p < d
       go false false e f = (R, spared (inr (sym (opposes-is (R .fit) q l w k c C) ∙ f)) same-refl)
 
   pub roll-others : Fit d s₀ → Rolling d p s₀ (rollOthers d p w c s₀)
-      × Each (RollIf (Protocol.refuses k) p w) (d .processors) (seen d s₀) (seen d (rollOthers d p w c s₀))
+      × Each (RollIf (Protocol.opposing k) p w) (d .processors) (seen d s₀) (seen d (rollOthers d p w c s₀))
   unfolding rollOthers
   roll-others F =
-      each (seen d) (Rolling d p s₀) (RollIf (Protocol.refuses k) p w) (rollOne d p w c) (d .processors) roll-one (d .processors) (omega arith) s₀
+      each (seen d) (Rolling d p s₀) (RollIf (Protocol.opposing k) p w) (rollOne d p w c) (d .processors) roll-one (d .processors) (omega arith) s₀
       (record { fit = F; own = own-refl })

@@ -23,13 +23,13 @@ use Rattle.theory.proofs.Looks.{normal-seen, tentative-seen, look-empty}
 use Rattle.theory.specs.Protocol.{Each, Snooped, own, other, Kind, reading, owning, snoops, supplied, Plainly, Granted}
 use Rattle.theory.specs.Protocol
 use Rattle.theory.proofs.Refine.{same-refl}
-use Rattle.theory.proofs.Serve.{cleared, refuses-roll, refuses-none}
+use Rattle.theory.proofs.Serve.{cleared, opposing-roll, opposing-none}
 use Rattle.serial.proofs.Decode.{slotOf, lineOf, decoded, seen, read-out}
 use Rattle.serial.proofs.Set.{Fit, entryOn, lineOn}
 use Rattle.serial.proofs.Codes.{pick-no, slot-normal, slot-tentative, tagged-fits}
 use Rattle.serial.proofs.Find.{entry-fits, slot-at, no-regular, slot-normal-at, slot-tentative-at}
 use Rattle.serial.proofs.Others.{Cycle, Own, own-refl, own-trans, each, is-free, roll-others}
-use Rattle.serial.proofs.Snoop.{left, snooped-is, Asks, refuses-left, Asked, nothing-asked}
+use Rattle.serial.proofs.Snoop.{left, snooped-is, Asks, opposing-left, Asked, nothing-asked}
 use Rattle.serial.proofs.Snoop.{line-held, main, line-asked, normal-asked, tentative-asked}
 
 -- the search for a NORMAL or tentative entry
@@ -70,7 +70,7 @@ module _ (s : Caches) (q n w : ℕ) where
           (eq-eqb (entryAt s q i .word) w hw)
 
 module _ {d : Dims} {s : Caches} (F : Fit d s) (q : ℕ) (lq : q < d .processors) (w : ℕ) (k : Kind) (c : ℕ) (C : Cycle k c)
-    (grants : Protocol.refuses k (seen d s .copy w q) ≡ false) where
+    (grants : Protocol.opposing k (seen d s .copy w q) ≡ false) where
   -- no slot of q is w's own: no entry is asked
   no-live : ((i : ℕ) → i < d .entries → mainOn w (decoded d s .slot q i) ≡ false) → d .entries ≤ liveEntry (s .entries) q (d .entries) w
   no-live g = elim (decLt i (d .entries)) [ yes l ↦ absurd (clash l (live-found s q (d .entries) w l)) | no l ↦ omega arith ]
@@ -156,7 +156,7 @@ module _ (d : Dims) (k : Kind) (c : ℕ) (C : Cycle k c) (p w : ℕ) (lp : p < d
     record {
       fit = a .fit;
       spared = λ r j. elim (ℕ-discrete r q) [
-        | yes e ↦ rw (e, a .copy) (refuses-left k (seen d s .copy w q))
+        | yes e ↦ rw (e, a .copy) (opposing-left k (seen d s .copy w q))
         | no x ↦ rw (a .at .proc-else r x) (A .spared r j)
       ];
       kept = own-trans (A .kept) (a .kept p (omega (arith, A .fit .frame .size .processors)) (λ z. n (sym z)));
@@ -198,9 +198,9 @@ pub record Served (d : Dims) (p : ℕ) (s s′ : Caches) : Type 0 where
   pub own : Own p s s′
 
 module _ {d : Dims} {s : Caches} (F : Fit d s) (k : Kind) (c : ℕ) (C : Cycle k c) (p w : ℕ) (lp : p < d .processors) where
-  spare : ((q : ℕ) → q < d .processors → q ≢ p → Protocol.refuses k (seen d s .copy w q) ≡ false)
-      → (q : ℕ) → q ≢ p → Protocol.refuses k (seen d s .copy w q) ≡ false
-  spare g q n = elim (decLt q (d .processors)) [ yes l ↦ g q l n | no l ↦ rw (beyond d s w q (omega arith)) (refuses-none k) ]
+  spare : ((q : ℕ) → q < d .processors → q ≢ p → Protocol.opposing k (seen d s .copy w q) ≡ false)
+      → (q : ℕ) → q ≢ p → Protocol.opposing k (seen d s .copy w q) ≡ false
+  spare g q n = elim (decLt q (d .processors)) [ yes l ↦ g q l n | no l ↦ rw (beyond d s w q (omega arith)) (opposing-none k) ]
 
   -- T_READ and T_RFO, not refused
   pub by-leave : refuses d p w c (s .entries) ≡ false → Served d p s (snoop d p w c s)
@@ -216,7 +216,7 @@ pub by-force : {d : Dims} {s : Caches} → Fit d s → (k : Kind) (c : ℕ) → 
 unfolding plainRequest
 by-force {d} {s} F k c C p w lp =
     let r = roll-others d k c C p w lp s F in
-    let near = cleared (Protocol.refuses k) (refuses-roll k) (d .processors) p w (r .1) in
+    let near = cleared (Protocol.opposing k) (opposing-roll k) (d .processors) p w (r .1) in
     let free = spare (r .0 .fit) k c C p w lp (λ q l n. near .near q l n) in
     let a = snooping d k c C p w lp s (rollOthers d p w c s) (record { fit = r .0 .fit; spared = free; kept = r .0 .own }) in
     (record { fit = a .0 .fit; own = a .0 .kept }, record { mid = seen d (rollOthers d p w c s); rolls = r .1; asks = a .1 })

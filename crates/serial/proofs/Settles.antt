@@ -16,7 +16,7 @@ use Rattle.rules.specs.State.{Caches, lineAt, entryAt, wordAt}
 use Rattle.rules.specs.Own.{home, holds}
 use Rattle.rules.specs.Settled.{isSettling, hasSettling, settlingEntry, settles, settler, settledIn}
 use Rattle.rules.specs.Settled
-use Rattle.theory.specs.View.{bare, backup, Copy, none, regular, normal, tentative, isDirty, owns}
+use Rattle.theory.specs.View.{bare, backup, Copy, none, regular, normal, tentative, dirtyState, owns}
 use Rattle.theory.proofs.Looks.{normal-seen}
 use Rattle.theory.proofs.Agree.{Agree}
 use Rattle.theory.proofs.Settled.{baseData, owns-data}
@@ -40,10 +40,10 @@ pub data Settling (d : Dims) (s : Caches) (w q : ℕ) : Type 0 where
       → Settling d s w q
   does-not : settles d (home d w) w (s .lines) (s .entries) q ≡ false → owns (seen d s .copy w q) ≡ false → Settling d s w q
 
-dirty-on : (x : ℕ) → x ≡ DIRTY → isDirty (stateOf x) ≡ true
+dirty-on : (x : ℕ) → x ≡ DIRTY → dirtyState (stateOf x) ≡ true
 dirty-on x e = sym (dirty-code x) ∙ eq-eqb x DIRTY e
 
-on-dirty : (x : ℕ) → isDirty (stateOf x) ≡ true → x ≡ DIRTY
+on-dirty : (x : ℕ) → dirtyState (stateOf x) ≡ true → x ≡ DIRTY
 on-dirty x h = eqb-true x DIRTY (dirty-code x ∙ h)
 
 module _ {d : Dims} {s : Caches} (F : Fit d s) (q : ℕ) (lq : q < d .processors) (w : ℕ) where
@@ -132,20 +132,20 @@ module _ {d : Dims} {s : Caches} (F : Fit d s) (q : ℕ) (lq : q < d .processors
           go (normal x y) e r =
               let f = normal-seen (d .entries) (home d) (decoded d s .slot q) (decoded d s .line q) w e in
               let z = slot-normal (entryAt s q (f .0)) (sym (slot-at F q lq (f .0) (f .1)) ∙ f .2) in
-              off (isDirty x)
-              (λ o. entry-off (f .0) (f .1) (inl (z .tagged)) (z .word) (on-dirty (entryAt s q (f .0) .state) (ap isDirty (z .state) ∙ o)))
+              off (dirtyState x)
+              (λ o. entry-off (f .0) (f .1) (inl (z .tagged)) (z .word) (on-dirty (entryAt s q (f .0) .state) (ap dirtyState (z .state) ∙ o)))
           go (tentative x y bare t) e r = refl
           go (tentative x y (backup a b) t) e r =
               let f = behind F q lq w e in
               let z = f .is in
-              off (isDirty a)
+              off (dirtyState a)
               (λ o. entry-off (f .slot) (f .inside) (inr (z .tagged)) (z .word)
-              (on-dirty (entryAt s q (f .slot) .state) (ap isDirty (z .state) ∙ o)))
+              (on-dirty (entryAt s q (f .slot) .state) (ap dirtyState (z .state) ∙ o)))
 
           over : (b : Bool) → holds line w ≡ b → owns (seen d s .copy w q) ≡ false
           over true o =
               ap owns (has-regular F q lq w line refl o) ∙
-              off (isDirty (stateOf (line .state)))
+              off (dirtyState (stateOf (line .state)))
               (λ x.
               true≢false
               (sym (both-true (eqb (line .state) DIRTY) (eqb (line .word) w) (eq-eqb (line .state) DIRTY (on-dirty (line .state) x))

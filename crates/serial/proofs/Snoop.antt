@@ -17,7 +17,7 @@ use Rattle.rules.specs.State.{Caches, lineAt, entryAt, wordAt}
 use Rattle.rules.specs.Own.{home, holds}
 use Rattle.rules.specs.Snoop.{writtenBack}
 use Rattle.theory.specs.View.{valid, Copy, none, regular, normal, tentative, wrote, View}
-use Rattle.theory.specs.Change.{At, Same}
+use Rattle.theory.specs.Change.{OnlyWord, Same}
 use Rattle.theory.proofs.Cache.{Slot, slotNormal, slotCopy, filled, mainOn, is-self, back-is}
 use Rattle.theory.proofs.Lines.{lineIs, line-main}
 use Rattle.theory.proofs.Updates.{AllTidy, SlotSet, turned, normal-gone, unmoved}
@@ -59,28 +59,28 @@ left-range owning e h = none-range
 -- a state after q's turn, and what the theory asks of it
 pub record Asks (d : Dims) (k : Kind) (p w : ℕ) (s₀ s : Caches) : Type 0 where
   pub fit : Fit d s
-  pub spared : (r : ℕ) → r ≢ p → Protocol.refuses k (seen d s .copy w r) ≡ false
+  pub spared : (r : ℕ) → r ≢ p → Protocol.opposing k (seen d s .copy w r) ≡ false
   pub kept : Own p s₀ s
 
-pub refuses-left : (k : Kind) (c : Copy) → Protocol.refuses k (snoops k c) ≡ false
-refuses-left reading none = refl
-refuses-left reading (regular s d) = refl
-refuses-left reading (normal s d) = refl
-refuses-left reading (tentative s d b t) = refl
-refuses-left owning none = refl
-refuses-left owning (regular s d) = refl
-refuses-left owning (normal s d) = refl
-refuses-left owning (tentative s d b t) = refl
+pub opposing-left : (k : Kind) (c : Copy) → Protocol.opposing k (snoops k c) ≡ false
+opposing-left reading none = refl
+opposing-left reading (regular s d) = refl
+opposing-left reading (normal s d) = refl
+opposing-left reading (tentative s d b t) = refl
+opposing-left owning none = refl
+opposing-left owning (regular s d) = refl
+opposing-left owning (normal s d) = refl
+opposing-left owning (tentative s d b t) = refl
 
 -- q's copy of w is asked, and nothing else changes
 pub record Asked (d : Dims) (k : Kind) (w q : ℕ) (s s′ : Caches) : Type 0 where
   pub fit : Fit d s′
-  pub at : At q w (seen d s) (seen d s′)
+  pub at : OnlyWord q w (seen d s) (seen d s′)
   pub copy : seen d s′ .copy w q ≡ snoops k (seen d s .copy w q)
   pub memory : wordAt s′ w ≡ supplied (seen d s .copy w q) (wordAt s w)
   pub kept : (p : ℕ) → p < 8 → p ≢ q → Own p s s′
 
-same-at : {S S′ : View} (q w : ℕ) → Same S S′ → At q w S S′
+same-at : {S S′ : View} (q w : ℕ) → Same S S′ → OnlyWord q w S S′
 same-at q w i = record {
   memory-else = λ u n. i .memory-same u;
   word-else = λ u n r. i .copy-same u r;
@@ -90,7 +90,7 @@ same-at q w i = record {
 }
 
 module _ {d : Dims} {s : Caches} (F : Fit d s) (q : ℕ) (lq : q < d .processors) (w : ℕ) (k : Kind)
-    (grants : Protocol.refuses k (seen d s .copy w q) ≡ false) where
+    (grants : Protocol.opposing k (seen d s .copy w q) ≡ false) where
   -- q has nothing of w
   pub nothing-asked : seen d s .copy w q ≡ none → Asked d k w q s s
   nothing-asked e =
@@ -189,7 +189,7 @@ module _ {d : Dims} {s : Caches} (F : Fit d s) (q : ℕ) (lq : q < d .processors
       turn : SlotSet (d .entries) (home d) q i (slotOf to) w (decoded d s) (decoded d t′)
       turn = set-slot (F .frame) entry-memory q i lq to rt li
 
-      asked-by : AllTidy (d .entries) (home d) (decoded d t′) → At q w (seen d s) (seen d t′) → seen d t′ .copy w q ≡ snoops k (seen d s .copy w q)
+      asked-by : AllTidy (d .entries) (home d) (decoded d t′) → OnlyWord q w (seen d s) (seen d t′) → seen d t′ .copy w q ≡ snoops k (seen d s .copy w q)
           → getD (writtenBack (s .memory) e) w 0 ≡ supplied (seen d s .copy w q) (wordAt s w) → Asked d k w q s t′
       asked-by T a c m = record {
         fit = entry-fit (F .frame) entry-memory q i lq to rt li ft T;

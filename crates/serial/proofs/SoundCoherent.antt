@@ -11,8 +11,8 @@ use Rattle.entry.specs.Numbers.{RESERVED, DIRTY}
 use Rattle.entry.specs.Packing.{InRange, unpack-range}
 use Rattle.rules.specs.declared.Dims.{Dims}
 use Rattle.rules.specs.State.{Caches, lineAt, entryAt, wordAt}
-use Rattle.rules.specs.Sound.{Sound, Copy}
-use Rattle.theory.specs.View.{LineState, bare, backup, none, regular, normal, tentative, above, isDirty, has, exclusive, isTentative}
+use Rattle.rules.specs.Sound.{Sound, HasCopy}
+use Rattle.theory.specs.View.{LineState, bare, backup, none, regular, normal, tentative, above, dirtyState, has, exclusive, isTentative}
 use Rattle.theory.specs.View
 use Rattle.theory.specs.Change.{Live}
 use Rattle.theory.proofs.Settled.{Coherent, agrees, ordered, coarse}
@@ -26,14 +26,14 @@ use Rattle.serial.proofs.SoundFit.{sound-fit}
 use Rattle.serial.proofs.Under.{Main, mainState, mainData, exclusive-main, main-entry, tentative-entry, behind, below-code}
 
 -- what a copy unpacks to is in range
-pub copy-range : {s : Caches} {p : ℕ} {e : Entry} → Copy s p e → InRange e
+pub copy-range : {s : Caches} {p : ℕ} {e : Entry} → HasCopy s p e → InRange e
 copy-range {s} {p} {e} c = by (c .here)
   where
     by : (lineAt s p (c .slot) ≡ e) ⊎ (entryAt s p (c .slot) ≡ e) → InRange e
     by (inl q) = subst InRange q (unpack-range _)
     by (inr q) = subst InRange q (unpack-range _)
 
-clean-code : (x : ℕ) → isDirty (stateOf x) ≡ false → x ≢ DIRTY
+clean-code : (x : ℕ) → dirtyState (stateOf x) ≡ false → x ≢ DIRTY
 clean-code x h = eqb-false x DIRTY (dirty-code x ∙ h)
 
 module _ {d : Dims} {s : Caches} (Z : Sound d s) (values : (w : ℕ) → wordAt s w < valueEnd) where
@@ -47,10 +47,10 @@ module _ {d : Dims} {s : Caches} (Z : Sound d s) (values : (w : ℕ) → wordAt 
   main : (p w : ℕ) → p < d .processors → (k : View.Copy) → seen d s .copy w p ≡ k → has k ≡ true → Main s p w k
   main p w lp k e h = main-entry F p lp w k e h
 
-  clean : (p w : ℕ) → p < d .processors → (k : View.Copy) → Main s p w k → isDirty (mainState k) ≡ false → mainData k ≡ wordAt s w
+  clean : (p w : ℕ) → p < d .processors → (k : View.Copy) → Main s p w k → dirtyState (mainState k) ≡ false → mainData k ≡ wordAt s w
   clean p w lp k m h =
       sym (m .value) ∙
-      (Z .clean p (m .copy) (eight p lp) (m .held-by) (m .held) (clean-code (m .copy .state) (ap isDirty (m .state) ∙ h)) ∙ ap (wordAt s) (m .word))
+      (Z .clean p (m .copy) (eight p lp) (m .held-by) (m .held) (clean-code (m .copy .state) (ap dirtyState (m .state) ∙ h)) ∙ ap (wordAt s) (m .word))
 
   only : (w p q : ℕ) → exclusive (seen d s .copy w p) ≡ true → q ≢ p → seen d s .copy w q ≡ none
   only w p q x n = go (decLt p (d .processors)) (decLt q (d .processors))
@@ -102,7 +102,7 @@ module _ {d : Dims} {s : Caches} (Z : Sound d s) (values : (w : ℕ) → wordAt 
                 (Z .clean p (entryAt s p (x .slot)) (eight p l)
                 (record { slot = x .slot; inside = omega (arith, x .inside, F .frame .size .entries); here = inr refl })
                 (tagged-fits (entry-fits F p l (x .slot) (x .inside)) (λ z. omega arith) .held)
-                (clean-code (entryAt s p (x .slot) .state) (ap isDirty (y .state) ∙ h)) ∙ ap (wordAt s) (y .word))),
+                (clean-code (entryAt s p (x .slot) .state) (ap dirtyState (y .state) ∙ h)) ∙ ap (wordAt s) (y .word))),
           )
 
   order : (w p : ℕ) → ordered (seen d s .copy w p)
@@ -162,4 +162,4 @@ seen-coarse {d} {s} F w p = go (decLt p (d .processors))
         one (normal a b) e = tt
         one (tentative a b y t) e =
             let i = tentative-entry F p l w e in
-            i .3 ∙ (dirty-code (entryAt s p (i .0) .state) ∙ ap isDirty (i .2 .state))
+            i .3 ∙ (dirty-code (entryAt s p (i .0) .state) ∙ ap dirtyState (i .2 .state))

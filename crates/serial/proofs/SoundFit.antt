@@ -14,7 +14,7 @@ use Rattle.entry.specs.Numbers.{INVALID, NORMAL, BACKUP, TENTATIVE}
 use Rattle.rules.specs.declared.Dims.{Dims}
 use Rattle.rules.specs.State.{Caches, lineAt, entryAt, wordAt}
 use Rattle.rules.specs.Own.{home}
-use Rattle.rules.specs.Sound.{Sound, Copy}
+use Rattle.rules.specs.Sound.{Sound, HasCopy}
 use Rattle.theory.proofs.Cache.{vacant, blank, filled, is-self, is-true, mainOn, backOn, tentativeOn, regularOn, Tidy, not-true}
 use Rattle.theory.proofs.Looks.{tidy-empty}
 use Rattle.serial.specs.Taking.{valueEnd}
@@ -56,10 +56,10 @@ module _ {d : Dims} {s : Caches} (Z : Sound d s) (values : (w : ℕ) → wordAt 
   size : Size d
   size = size-of d (Z .dimensions)
 
-  line-of : (p i : ℕ) → p < 8 → i < 64 → Copy s p (lineAt s p i)
+  line-of : (p i : ℕ) → p < 8 → i < 64 → HasCopy s p (lineAt s p i)
   line-of p i lp li = record { slot = i; inside = li; here = inl refl }
 
-  entry-of : (p i : ℕ) → p < 8 → i < 64 → Copy s p (entryAt s p i)
+  entry-of : (p i : ℕ) → p < 8 → i < 64 → HasCopy s p (entryAt s p i)
   entry-of p i lp li = record { slot = i; inside = li; here = inr refl }
 
   line-fit : (p i : ℕ) → p < 8 → i < 64 → Fits (LineFits d) p i (lineAt s p i)

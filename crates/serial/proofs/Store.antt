@@ -21,7 +21,7 @@ use Rattle.rules.specs.Rollback.{rollback}
 use Rattle.rules.specs.Snoop.{writes, writtenBack, clearLine, clearEntry, plainRequest}
 use Rattle.rules.specs.Store
 use Rattle.theory.specs.View.{none, regular, normal, isTentative, View}
-use Rattle.theory.specs.Change.{At}
+use Rattle.theory.specs.Change.{OnlyWord}
 use Rattle.theory.proofs.Cache.{filled, mainOn}
 use Rattle.theory.proofs.Slots.{look-none}
 use Rattle.theory.proofs.Lines.{lineIs, line-main}
@@ -105,7 +105,7 @@ bared {d} {s} F p lp w nt = by (ltb i (d .entries)) refl
         M : Memory d s w (writtenBack (s .memory) e)
         M = back-at (F .frame) e ew (fits-word (entry-fits F p lp i l)) (unpack-range _ .«data»)
 
-        g : AllTidy (d .entries) (home d) (decoded d (clearEntry s p i)) × At p w (seen d s) (seen d (clearEntry s p i))
+        g : AllTidy (d .entries) (home d) (decoded d (clearEntry s p i)) × OnlyWord p w (seen d s) (seen d (clearEntry s p i))
             × (seen d s .copy w p ≡ normal (stateOf (e .state)) (e .«data»)) × (seen d (clearEntry s p i) .copy w p ≡ none)
         g =
             normal-gone (d .entries) (home d) (F .tidy) l (set-slot (F .frame) M p i lp noEntry none-range l) refl

@@ -45,7 +45,7 @@ exclusive-main (tentative s x b t) = refl
 -- the line or entry that is p's copy of w
 pub record Main (s : Caches) (p w : ℕ) (k : Copy) : Type 0 where
   pub copy : Entry
-  pub held-by : Sound.Copy s p copy
+  pub held-by : Sound.HasCopy s p copy
   pub held : copy .state ≢ INVALID
   pub word : copy .word ≡ w
   pub state : stateOf (copy .state) ≡ mainState k

@@ -13,7 +13,7 @@ use Rattle.entry.specs.Numbers.{INVALID, RESERVED, DIRTY, BACKUP, TENTATIVE}
 use Rattle.entry.specs.Packing.{packedEnd, unpack, noEntry}
 use Rattle.rules.specs.declared.Dims.{Dims}
 use Rattle.rules.specs.State.{Caches, place, lineAt, entryAt, wordAt, activePlace, statusPlace}
-use Rattle.rules.specs.Sound.{Held, Copy, Sound, activeFlag, statusFlag}
+use Rattle.rules.specs.Sound.{Held, HasCopy, Sound, activeFlag, statusFlag}
 use Rattle.rules.specs.SoundTest.{ofLines, ofEntries, marksOf, ownersOf, partnerPlace}
 use Rattle.sound.proofs.Places.{place-in, place-processor, place-slot, place-of}
 use Rattle.sound.proofs.Keys.{same-key, value-once, value-kinds, owner-of}
@@ -73,7 +73,7 @@ module _ (d : Dims) (s : Caches) (t : Tested d s) where
     owner = λ n. f .owner n ∙ owner-of p i hp;
   }
 
-  copy-known : (p : ℕ) (e : Entry) → p < 8 → Copy s p e → Held e → Known p e
+  copy-known : (p : ℕ) (e : Entry) → p < 8 → HasCopy s p e → Held e → Known p e
   copy-known p e hp c = by (c .here)
     where
       by : (lineAt s p (c .slot) ≡ e) ⊎ (entryAt s p (c .slot) ≡ e) → Held e → Known p e
@@ -84,7 +84,7 @@ module _ (d : Dims) (s : Caches) (t : Tested d s) where
           subst (λ f. Held f → Known p f) q
           (λ h. known p (c .slot) ofEntries (entryAt s p (c .slot)) hp (held-entry p (c .slot) h .copy))
 
-  copy-zero : (p : ℕ) (e : Entry) → Copy s p e → e .state ≡ INVALID → e ≡ noEntry
+  copy-zero : (p : ℕ) (e : Entry) → HasCopy s p e → e .state ≡ INVALID → e ≡ noEntry
   copy-zero p e c = by (c .here)
     where
       by : (lineAt s p (c .slot) ≡ e) ⊎ (entryAt s p (c .slot) ≡ e) → e .state ≡ INVALID → e ≡ noEntry
@@ -96,7 +96,7 @@ module _ (d : Dims) (s : Caches) (t : Tested d s) where
           (none-zero (getD (s .entries) (place p (c .slot)) 0) (λ n. entry-fits p (c .slot) n .held))
 
   -- a copy RESERVED or DIRTY has left an owner of its word
-  copy-owned : (p : ℕ) (e : Entry) → Copy s p e → RESERVED ≤ e .state → getD owners (e .word) 0 ≢ 0
+  copy-owned : (p : ℕ) (e : Entry) → HasCopy s p e → RESERVED ≤ e .state → getD owners (e .word) 0 ≢ 0
   copy-owned p e c = by (c .here)
     where
       by : (lineAt s p (c .slot) ≡ e) ⊎ (entryAt s p (c .slot) ≡ e) → RESERVED ≤ e .state → getD owners (e .word) 0 ≢ 0
@@ -111,7 +111,7 @@ module _ (d : Dims) (s : Caches) (t : Tested d s) where
           entry-owner (s .lines) (s .entries) (λ v. v ≢ 0) (entryAt s p (c .slot) .word) (omega arith) (λ k a o e z. omega arith)
           (place p (c .slot)) (place-in p (c .slot)) h refl)
 
-  one-processor : (p q : ℕ) (e f : Entry) → p < 8 → q < 8 → p ≢ q → Copy s p e → Copy s q f → RESERVED ≤ e .state → Held f →
+  one-processor : (p q : ℕ) (e f : Entry) → p < 8 → q < 8 → p ≢ q → HasCopy s p e → HasCopy s q f → RESERVED ≤ e .state → Held f →
       f .word ≢ e .word
   one-processor p q e f hp hq n ce cf h hf w =
       let o = copy-owned p e ce h in

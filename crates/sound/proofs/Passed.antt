@@ -13,7 +13,7 @@ use Rattle.entry.specs.Numbers.{RESERVED, BACKUP, TENTATIVE}
 use Rattle.entry.specs.Packing.{unpack, unpack-zero}
 use Rattle.rules.specs.declared.Dims.{Dims}
 use Rattle.rules.specs.State.{Caches, place, lineAt, entryAt, activePlace, statusPlace}
-use Rattle.rules.specs.Sound.{Held, Copy, Sound}
+use Rattle.rules.specs.Sound.{Held, HasCopy, Sound}
 use Rattle.rules.specs.SoundTest.{ofLines, ofEntries, markKey, markValue, marksOf, ownerOf, ownersOf, partnerPlace}
 use Rattle.sound.proofs.Places.{place-in, place-processor, place-slot, each-place}
 use Rattle.sound.proofs.Keys.{key-small, key-same, partner-key, value-place, owner-of}
@@ -27,10 +27,10 @@ module _ (d : Dims) (s : Caches) (h : Sound d s) where
   abbrev owners : List ℕ
   owners = ownersOf (s .lines) (s .entries)
 
-  line-copy : (p i : ℕ) → i < 64 → Copy s p (lineAt s p i)
+  line-copy : (p i : ℕ) → i < 64 → HasCopy s p (lineAt s p i)
   line-copy p i hi = record { slot = i; inside = hi; here = inl refl }
 
-  entry-copy : (p i : ℕ) → i < 64 → Copy s p (entryAt s p i)
+  entry-copy : (p i : ℕ) → i < 64 → HasCopy s p (entryAt s p i)
   entry-copy p i hi = record { slot = i; inside = hi; here = inr refl }
 
   -- a place that is not 0 holds a copy
@@ -43,14 +43,14 @@ module _ (d : Dims) (s : Caches) (h : Sound d s) where
       n (unpack-zero (getD (s .entries) (place p i) 0) (h .entry-codes p i hp hi) (h .zero p (entryAt s p i) hp (entry-copy p i hi) z))
 
   -- the owner of a copy's word is its processor
-  same-owner : (p q : ℕ) (e f : Entry) → p < 8 → q < 8 → Copy s p e → Held e → Copy s q f → RESERVED ≤ f .state → f .word ≡ e .word → q ≡ p
+  same-owner : (p q : ℕ) (e f : Entry) → p < 8 → q < 8 → HasCopy s p e → Held e → HasCopy s q f → RESERVED ≤ f .state → f .word ≡ e .word → q ≡ p
   same-owner p q e f hp hq ce he cf o w = by (ℕ-discrete q p)
     where
       by : Dec (q ≡ p) → q ≡ p
       by (yes z) = z
       by (no n) = absurd (h .exclusive q p f e hq hp n cf ce o he (sym w))
 
-  owned : (p : ℕ) (e : Entry) → p < 8 → Copy s p e → Held e → getD owners (e .word) 0 ≢ 0 → getD owners (e .word) 0 ≡ p + 1
+  owned : (p : ℕ) (e : Entry) → p < 8 → HasCopy s p e → Held e → getD owners (e .word) 0 ≢ 0 → getD owners (e .word) 0 ≡ p + 1
   owned p e hp c held =
       owner-all (s .lines) (s .entries) (λ v. v ≢ 0 → v ≡ p + 1) (e .word)
       (omega (arith, h .words p e hp c held, few-words d (h .dimensions))) (λ n. absurd (n refl))
@@ -122,7 +122,7 @@ module _ (d : Dims) (s : Caches) (h : Sound d s) where
       (λ z b w. ap (place p) (one-entry p m i hp hm hi (entry-held p m hp hm z) (entry-held p i hp hi n) b w)) z (k .1) (k .2))))
       (place p i) (place-in p i) n refl
 
-  copy-fits : (p i kind : ℕ) (e : Entry) → p < 8 → Copy s p e → Held e → getD marks (markKey e (place p i)) 0 ≡ markValue kind (place p i) →
+  copy-fits : (p i kind : ℕ) (e : Entry) → p < 8 → HasCopy s p e → Held e → getD marks (markKey e (place p i)) 0 ≡ markValue kind (place p i) →
       CopyFits (s .memory) marks owners (d .words) kind e (place p i)
   copy-fits p i kind e hp c held mark = record {
     word = h .words p e hp c held;

@@ -13,7 +13,7 @@ use Rattle.text.specs.declared.records.Split.{Split}
 use Rattle.text.specs.declared.records.Split.the-variants as split
 use Rattle.text.specs.Marks.{MALFORMED}
 use Rattle.text.specs.Decimals.{fieldOf}
-use Rattle.text.specs.Names.{NO-STEP, wordNames, otherNames, nameIn, sameText, otherStepOf, stepOf}
+use Rattle.text.specs.Names.{NO-STEP, wordNames, otherNames, nameIn, sameText, otherStepOf, namedStep}
 use Rattle.text.specs.Records.{recordRefusal, parsedOf, recordIn, splitOf, recordOf}
 
 pub parsed-refusal : (op : ℕ) (g c w v : Field) →
@@ -33,7 +33,7 @@ record-refusal s from end = by (splitOf s from end)
         either (eqb (recordRefusal (recordIn s from end x)) 0) (eqb (recordRefusal (recordIn s from end x)) MALFORMED) ≡ true
     by (split.Fields cs) =
         parsed-refusal
-        (stepOf s (cs .b + 1) (cs .c))
+        (namedStep s (cs .b + 1) (cs .c))
         (fieldOf s from (cs .a))
         (fieldOf s (cs .a + 1) (cs .b))
         (fieldOf s (cs .c + 1) (cs .d))
@@ -61,8 +61,8 @@ unfolding otherStepOf Known
 other-known s from end =
     name-known s from end otherNames NO-STEP (omega arith, (omega arith, (omega arith, (omega arith, tt)))) (λ h. refl)
 
-pub step-known : (s : List ℕ) (from end : ℕ) → INTERRUPT < stepOf s from end → stepOf s from end ≡ NO-STEP
-unfolding stepOf Known
+pub step-known : (s : List ℕ) (from end : ℕ) → INTERRUPT < namedStep s from end → namedStep s from end ≡ NO-STEP
+unfolding namedStep Known
 step-known s from end =
     name-known s from end wordNames (otherStepOf s from end)
     (omega arith, (omega arith, (omega arith, (omega arith, (omega arith, tt)))))

@@ -14,7 +14,7 @@ use Rattle.text.specs.declared.decimals.Field.{Field}
 use Rattle.text.specs.declared.decimals.Field.the-variants.{Number}
 use Rattle.text.specs.Marks.{DIGIT-ZERO, DIGIT-NINE, NUMBER-MOST, byteAt}
 use Rattle.text.specs.Decimals.{push, fieldOf}
-use Rattle.text.specs.Writing.{written, putOf, digits, digitOf, decimal, widthFrom, widthOf}
+use Rattle.text.specs.Writing.{filled, putOf, digits, digitOf, decimal, widthFrom, widthOf}
 use Rattle.text.proofs.FieldBytes.{digitsIn, fieldIn, bytesFrom, field-list}
 use Rattle.text.proofs.Puts.{put-fit}
 
@@ -163,7 +163,7 @@ bytes-put (b ∷ t) o at h =
 
 -- The field from a place up to where a number written there ends is that number.
 pub put-back : (v : ℕ) (o : List ℕ) (at : ℕ) → v ≤ NUMBER-MOST → at + length (decimal v) ≤ length o →
-    fieldOf (putOf (decimal v) (written at o) .held) at (putOf (decimal v) (written at o) .place) ≡ Number v
+    fieldOf (putOf (decimal v) (filled at o) .held) at (putOf (decimal v) (filled at o) .place) ≡ Number v
 put-back v o at h l =
     let t = decimal v in
     let e : at + length t - at ≡ length t = omega arith in

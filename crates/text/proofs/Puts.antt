@@ -11,7 +11,7 @@ use borrow.Author.Tests.{lt-ltb, le-ltb, le-leb, lt-leb}
 use lib.ListN.{length, getD, set, drop, length-append, drop-of-length-le}
 use lib.Seq.{sets, length-sets, set-comm, drop-cons}
 use Rattle.laws.specs.Choice.{pick}
-use Rattle.text.specs.Writing.{WIDTH-MOST, Written, written, putOf, widthFrom, widthOf, digitOf, digits, decimal}
+use Rattle.text.specs.Writing.{WIDTH-MOST, Filled, filled, putOf, widthFrom, widthOf, digitOf, digits, decimal}
 
 pub digits-length : (w v : ℕ) → length (digits w v) ≡ w
 unfolding digits
@@ -93,27 +93,27 @@ unfolding widthOf
 width-range v = width-from (WIDTH-MOST - 1) v 1
 
 -- What a put does, by cases.
-pub put-not : (t o : List ℕ) (at : ℕ) → length o < at + length t → written at o ≡ putOf t (written at o)
+pub put-not : (t o : List ℕ) (at : ℕ) → length o < at + length t → filled at o ≡ putOf t (filled at o)
 unfolding putOf
 put-not t o at h = rw (lt-leb (at + length t) (length o) h)
 
 pub put-fit : (t o o' : List ℕ) (at : ℕ) → at + length t ≤ length o → o' ≡ sets o at t →
-    written (at + length t) o' ≡ putOf t (written at o)
+    filled (at + length t) o' ≡ putOf t (filled at o)
 unfolding putOf
 put-fit t o o' at h e = rw (e, le-leb (at + length t) (length o) h)
 
-pub number-not : (v n : ℕ) (o : List ℕ) (at : ℕ) → n ≡ widthOf v → length o < at + n → written at o ≡ putOf (decimal v) (written at o)
+pub number-not : (v n : ℕ) (o : List ℕ) (at : ℕ) → n ≡ widthOf v → length o < at + n → filled at o ≡ putOf (decimal v) (filled at o)
 number-not v n o at e h = put-not (decimal v) o at (omega (arith, decimal-length v))
 
 pub number-fit : (v n : ℕ) (o o' : List ℕ) (at : ℕ) → n ≡ widthOf v → at + n ≤ length o → o' ≡ sets o at (digits n v) →
-    written (at + n) o' ≡ putOf (decimal v) (written at o)
+    filled (at + n) o' ≡ putOf (decimal v) (filled at o)
 unfolding decimal
 number-fit v n o o' at e h g =
     let l : length (digits n v) ≡ n = digits-length n v in
-    rw (← e) (ap (λ (k : ℕ). written (at + k) o') (sym l) ∙ put-fit (digits n v) o o' at (omega (arith, l)) g)
+    rw (← e) (ap (λ (k : ℕ). filled (at + k) o') (sym l) ∙ put-fit (digits n v) o o' at (omega (arith, l)) g)
 
 -- Put after put is one put of both, where both fit.
-pub put-put : (t u : List ℕ) (x : Written) → x .place + length (t ++ u) ≤ length (x .held) → putOf u (putOf t x) ≡ putOf (t ++ u) x
+pub put-put : (t u : List ℕ) (x : Filled) → x .place + length (t ++ u) ≤ length (x .held) → putOf u (putOf t x) ≡ putOf (t ++ u) x
 unfolding putOf
 put-put t u x h =
     let l = length-append t u in
@@ -124,23 +124,23 @@ put-put t u x h =
       le-leb (x .place + length (t ++ u)) (length (x .held)) h,
       sets-append t u (x .held) (x .place),
     )
-    (ap (λ (k : ℕ). written k (sets (sets (x .held) (x .place) t) (x .place + length t) u)) (omega (arith, l)))
+    (ap (λ (k : ℕ). filled k (sets (sets (x .held) (x .place) t) (x .place + length t) u)) (omega (arith, l)))
 
 abbrev pub texts : List (List ℕ) → List ℕ
 texts [] = []
 texts (t ∷ ts) = t ++ texts ts
 
 -- One text after the other.
-abbrev pub putAll : List (List ℕ) → Written → Written
+abbrev pub putAll : List (List ℕ) → Filled → Filled
 putAll [] x = x
 putAll (t ∷ ts) x = putAll ts (putOf t x)
 
-pub put-place : (t : List ℕ) (x : Written) → x .place + length t ≤ length (x .held) →
+pub put-place : (t : List ℕ) (x : Filled) → x .place + length t ≤ length (x .held) →
     (putOf t x .place ≡ x .place + length t) × (length (putOf t x .held) ≡ length (x .held))
 unfolding putOf
 put-place t x h = rw (le-leb (x .place + length t) (length (x .held)) h) (refl, length-sets (x .held) (x .place) t)
 
-pub put-all : (ts : List (List ℕ)) (x : Written) → x .place + length (texts ts) ≤ length (x .held) → putAll ts x ≡ putOf (texts ts) x
+pub put-all : (ts : List (List ℕ)) (x : Filled) → x .place + length (texts ts) ≤ length (x .held) → putAll ts x ≡ putOf (texts ts) x
 unfolding putOf
 put-all [] x h = rw (le-leb (x .place + 0) (length (x .held)) h, add-zero (x .place))
 put-all (t ∷ ts) x h =

@@ -13,7 +13,7 @@ use Rattle.text.specs.declared.records.Record.the-variants.{Fields, Refu
 use Rattle.text.specs.Quoted.{bytes}
 use Rattle.text.specs.Marks.{CR, LF, MALFORMED, findOf}
 use Rattle.text.specs.Decimals.{push, fieldOf}
-use Rattle.text.specs.Names.{NO-STEP, unlikeOf, sameText, otherStepOf, stepOf}
+use Rattle.text.specs.Names.{NO-STEP, unlikeOf, sameText, otherStepOf, namedStep}
 use Rattle.text.specs.Records.{recordEnd, plainOf, splitOf, recordOf}
 use Rattle.text.specs.Writing.{widthFrom, widthOf, digits, decimal}
 
@@ -113,7 +113,7 @@ sameBytes (a ∷ s) (b ∷ t) = both (eqb a b) (sameBytes s t)
 
 -- the first record of an input
 pub firstRecord : List ℕ → Record
-unfolding recordEnd firstFrom plainOf findOf splitOf push foldRange fieldOf unlikeOf sameText otherStepOf stepOf recordOf
+unfolding recordEnd firstFrom plainOf findOf splitOf push foldRange fieldOf unlikeOf sameText otherStepOf namedStep recordOf
 firstRecord s = recordOf s 0 (recordEnd s 0)
 
 pub rowHolds : Row → Bool

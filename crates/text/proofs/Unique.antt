@@ -6,7 +6,7 @@ use borrow.Fn.World.{ArgsD, ResD}
 use borrow.Fn.Kinds.{endedOf}
 use denote.Triple.Clauses.{AtExit}
 use denote.Ref.{now}
-use Rattle.text.specs.Writing.{Written}
+use Rattle.text.specs.Writing.{Filled}
 use Rattle.text.proofs.records.record_end as record-end
 use Rattle.text.proofs.records.record_end.Kinds as record-end-kinds
 use Rattle.text.proofs.records.record_end.Reads as record-end-reads
@@ -51,11 +51,11 @@ pub put-bytes-unique : (κs : Lfts 2) (a : ArgsD put-bytes.signature κs) (r r' 
     (r ≡ r') × (now (s .0) ≡ now (s' .0))
 put-bytes-unique κs a r r' s s' p q =
     let e = p ∙ sym q in
-    (ap (λ (x : Written). x .place) e, ap (λ (x : Written). x .held) e)
+    (ap (λ (x : Filled). x .place) e, ap (λ (x : Filled). x .held) e)
 
 pub put-number-unique : (κs : Lfts 1) (a : ArgsD put-number.signature κs) (r r' : ResD put-number.signature κs)
     (s s' : AtExit (endedOf 1 put-number-kinds.ps put-number-kinds.r) κs) → put-number-reads.Post κs a r s → put-number-reads.Post κs a r' s' →
     (r ≡ r') × (now (s .0) ≡ now (s' .0))
 put-number-unique κs a r r' s s' p q =
     let e = p ∙ sym q in
-    (ap (λ (x : Written). x .place) e, ap (λ (x : Written). x .held) e)
+    (ap (λ (x : Filled). x .place) e, ap (λ (x : Filled). x .held) e)

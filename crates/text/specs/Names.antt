@@ -54,5 +54,5 @@ nameIn s from end (n ∷ ns) k = pick (sameText s from end (n .0)) (n .1) (nameI
 unfoldable pub otherStepOf : List ℕ → ℕ → ℕ → ℕ
 otherStepOf s from end = nameIn s from end otherNames NO-STEP
 
-unfoldable pub stepOf : List ℕ → ℕ → ℕ → ℕ
-stepOf s from end = nameIn s from end wordNames (otherStepOf s from end)
+unfoldable pub namedStep : List ℕ → ℕ → ℕ → ℕ
+namedStep s from end = nameIn s from end wordNames (otherStepOf s from end)

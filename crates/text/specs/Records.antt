@@ -14,7 +14,7 @@ use Rattle.text.specs.declared.records.Split.{Split}
 use Rattle.text.specs.declared.records.Split.the-variants as split
 use Rattle.text.specs.Marks.{CR, LF, COMMA, QUOTE-MARK, RECORD-MOST, MALFORMED, byteAt, findOf}
 use Rattle.text.specs.Decimals.{fieldRefusal, fieldOf}
-use Rattle.text.specs.Names.{stepOf}
+use Rattle.text.specs.Names.{namedStep}
 
 -- What a record's two cases stand for: one that is read is no refusal.
 abbrev pub recordRefusal : Record → ℕ
@@ -63,7 +63,7 @@ parsedOf op (Number g) (Number c) (Number a) (Number v) =
 abbrev pub recordIn : List ℕ → ℕ → ℕ → Split → Record
 recordIn s from end (split.Fields cs) =
     parsedOf
-    (stepOf s (cs .b + 1) (cs .c))
+    (namedStep s (cs .b + 1) (cs .c))
     (fieldOf s from (cs .a))
     (fieldOf s (cs .a + 1) (cs .b))
     (fieldOf s (cs .c + 1) (cs .d))

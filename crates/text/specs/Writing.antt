@@ -8,18 +8,18 @@ use Rattle.laws.specs.Choice.{pick}
 use Rattle.text.specs.Marks.{DIGIT-ZERO}
 
 -- A place in a buffer, and what the buffer holds.
-pub record Written : Type 0 where
+pub record Filled : Type 0 where
   pub place : ℕ
   pub held : List ℕ
 
-abbrev pub written : ℕ → List ℕ → Written
-written p h = record { place = p; held = h }
+abbrev pub filled : ℕ → List ℕ → Filled
+filled p h = record { place = p; held = h }
 
 -- A text at the place, the rest of the buffer kept, and the place after it. Where it does not fit, nothing is written and the place stays.
-unfoldable pub putOf : List ℕ → Written → Written
+unfoldable pub putOf : List ℕ → Filled → Filled
 putOf t x =
     pick (leb (x .place + length t) (length (x .held)))
-    (written (x .place + length t) (sets (x .held) (x .place) t))
+    (filled (x .place + length t) (sets (x .held) (x .place) t))
     x
 
 -- A number of 64 bits has at most 20 digits.

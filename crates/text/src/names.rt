@@ -12,7 +12,7 @@ use entry::numbers::STORE;
 use entry::numbers::VALIDATE;
 ghost use mathlib.Core.Path.{_≡_};
 ghost use Prim.Native.Nat.{_+_, _<_};
-ghost use Rattle.text.specs.Names.{sameText, unlikeOf, otherStepOf, stepOf};
+ghost use Rattle.text.specs.Names.{sameText, unlikeOf, otherStepOf, namedStep};
 
 // Any text that is no step's name.
 pub const NO_STEP: u8 = 255;
@@ -54,7 +54,7 @@ fn first_unlike(s: &[u8], from: usize, n: usize, name: &[u8]) -> usize
 
 // The steps that use a word, then the others.
 pub(crate) fn step_of(s: &[u8], from: usize, end: usize) -> u8
-    ensures { λ r. ⌜ r ≡ stepOf (now (s .entry)) from end ⌝ }
+    ensures { λ r. ⌜ r ≡ namedStep (now (s .entry)) from end ⌝ }
 {
     if text_is(s, from, end, b"LOAD") {
         return LOAD;

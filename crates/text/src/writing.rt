@@ -5,13 +5,13 @@ ghost use mathlib.Core.Path.{_≡_};
 ghost use Prim.Native.Nat.{_+_, _≤_};
 ghost use lib.ListN.{length};
 ghost use lib.Seq.{sets};
-ghost use Rattle.text.specs.Writing.{written, putOf, widthOf, digits, digitOf, decimal};
+ghost use Rattle.text.specs.Writing.{filled, putOf, widthOf, digits, digitOf, decimal};
 
 // A number of 64 bits has at most 20 digits.
 const WIDTH_MOST: usize = 20;
 
 pub fn put_bytes(out: &mut [u8], at: usize, text: &[u8]) -> usize
-    ensures { λ r. ⌜ written r (now (out .exit)) ≡ putOf (now (text .entry)) (written at (now (out .entry))) ⌝ }
+    ensures { λ r. ⌜ filled r (now (out .exit)) ≡ putOf (now (text .entry)) (filled at (now (out .entry))) ⌝ }
 {
     let n = text.len();
     if out.len() < n {
@@ -25,7 +25,7 @@ pub fn put_bytes(out: &mut [u8], at: usize, text: &[u8]) -> usize
 }
 
 pub fn put_number(out: &mut [u8], at: usize, v: u64) -> usize
-    ensures { λ r. ⌜ written r (now (out .exit)) ≡ putOf (decimal v) (written at (now (out .entry))) ⌝ }
+    ensures { λ r. ⌜ filled r (now (out .exit)) ≡ putOf (decimal v) (filled at (now (out .entry))) ⌝ }
 {
     let n = width(v);
     if out.len() < n {

@@ -4,11 +4,11 @@ use mathlib.Core.Logic.{_≢_}
 use mathlib.Core.Bool.{true, false, true≢false}
 use Prim.Native.Nat.{ℕ}
 use native.Mathlib.Decide.{ℕ-discrete}
-use Rattle.theory.specs.View.{bare, backup, Copy, none, regular, normal, tentative, isTentative, ownValue, rolledBack, committed, Word, View}
+use Rattle.theory.specs.View.{bare, backup, Copy, none, regular, normal, tentative, isTentative, ownValue, rolledCopy, committedCopy, Word, View}
 use Rattle.theory.proofs.Move.{Move, moved, drop-regular, drop-normal, drop-backup, lower-regular, lower-normal, begin-backed}
 use Rattle.theory.proofs.Move.{begin-bare, fill-regular, fill-tentative, fill-backed, own-regular, own-tentative, own-backed, upgrade}
 use Rattle.theory.proofs.OneWord.{Low, Alone, rolled, committedWord}
-use Rattle.theory.specs.Change.{Live, At, OnlyProcessor, same}
+use Rattle.theory.specs.Change.{Live, OnlyWord, OnlyProcessor, same}
 use Rattle.theory.proofs.Moves.{Silent, still, move, rollback, wake}
 
 -- the view agrees with one memory of settled values
@@ -24,7 +24,7 @@ word-same W em ec ex = record {
 }
 
 -- a change at one place
-pub agree-at : {S S′ : View} {M M′ : ℕ → ℕ} (p w : ℕ) → Agree S M → At p w S S′
+pub agree-at : {S S′ : View} {M M′ : ℕ → ℕ} (p w : ℕ) → Agree S M → OnlyWord p w S S′
     → Word (S′ .memory w) (S′ .copy w) (M′ w)
     → ((u : ℕ) → u ≢ w → M′ u ≡ M u)
     → (isTentative (S′ .copy w p) ≡ true → Live S p)
@@ -63,7 +63,7 @@ move-live (own-tentative a z) g h = a
 move-live (own-backed a z) g h = a
 move-live (upgrade z) g h = g h
 
-pub agree-move : {S S′ : View} {M : ℕ → ℕ} (p w : ℕ) {k k′ : Copy} {m m′ : ℕ} → Agree S M → At p w S S′
+pub agree-move : {S S′ : View} {M : ℕ → ℕ} (p w : ℕ) {k k′ : Copy} {m m′ : ℕ} → Agree S M → OnlyWord p w S S′
     → S .memory w ≡ m → S′ .memory w ≡ m′ → S .copy w p ≡ k → S′ .copy w p ≡ k′
     → Move (Live S p) (Low (S .copy w) p) (Alone (S .copy w) p) m k m′ k′ → Agree S′ M
 agree-move {S} {S′} {M} p w {k} {k′} {m} {m′} A at em em′ was here v =
@@ -86,24 +86,24 @@ agree-cache {S} {S′} {M} {M′} p A c ws l = record { words = λ w. rw (c .mem
         go (yes e) = rw e (l w (rw (e, c .here w) at h))
         go (no n) = let h = A .live w q (rw (c .else w q n) at h) in (c .active-else q n ∙ h .0, c .status-else q n ∙ h .1)
 
-pub rolledBack-tentative : (k : Copy) → isTentative (rolledBack k) ≡ false
+pub rolledBack-tentative : (k : Copy) → isTentative (rolledCopy k) ≡ false
 rolledBack-tentative none = refl
 rolledBack-tentative (regular s d) = refl
 rolledBack-tentative (normal s d) = refl
 rolledBack-tentative (tentative s d bare t) = refl
 rolledBack-tentative (tentative s d (backup r e) t) = refl
 
-pub committed-tentative : (k : Copy) → isTentative (committed k) ≡ false
+pub committed-tentative : (k : Copy) → isTentative (committedCopy k) ≡ false
 committed-tentative none = refl
 committed-tentative (regular s d) = refl
 committed-tentative (normal s d) = refl
 committed-tentative (tentative s d b t) = refl
 
-pub agree-undo : {S S′ : View} {M : ℕ → ℕ} (p : ℕ) → Agree S M → OnlyProcessor rolledBack p S S′ → Agree S′ M
+pub agree-undo : {S S′ : View} {M : ℕ → ℕ} (p : ℕ) → Agree S M → OnlyProcessor rolledCopy p S S′ → Agree S′ M
 agree-undo {S} p A c =
     agree-cache p A c (λ w. rolled (A .words w) p (c .here w) (c .else w)) (λ w h. absurd (true≢false (sym h ∙ rolledBack-tentative (S .copy w p))))
 
-pub agree-commit : {S S′ : View} {M : ℕ → ℕ} (p : ℕ) → Agree S M → OnlyProcessor committed p S S′ → Agree S′ (λ w. ownValue (S .copy w p) (M w))
+pub agree-commit : {S S′ : View} {M : ℕ → ℕ} (p : ℕ) → Agree S M → OnlyProcessor committedCopy p S S′ → Agree S′ (λ w. ownValue (S .copy w p) (M w))
 agree-commit {S} p A c = agree-cache p A c (λ w. committedWord (A .words w) p (c .here w) (c .else w))
     (λ w h. absurd (true≢false (sym h ∙ committed-tentative (S .copy w p))))
 

@@ -3,7 +3,7 @@ use mathlib.Core.Path.{_≡_, refl, sym, _∙_, ap}
 use mathlib.Core.Logic.{_⊎_, inl, inr}
 use mathlib.Core.Bool.{true, false, true≢false, false≢true}
 use Prim.Native.Nat.{ℕ, _<_}
-use Rattle.theory.specs.View.{Back, bare, Copy, rolledBack, committed}
+use Rattle.theory.specs.View.{Back, bare, Copy, rolledCopy, committedCopy}
 use Rattle.theory.proofs.Cache.{Backs, Has, Line, Slot, Tidy, backOn, backed, blank, filled, in-line, in-slot, look}
 use Rattle.theory.proofs.Cache.{look-is, looks, main-tentative, mainOn, not-true, nowhere, lineCopy, regularOn, slotBackup}
 use Rattle.theory.proofs.Cache.{slotCopy, slotNormal, slotTentative, tentativeOn, tidy-shrink, unbacked, vacant}
@@ -46,7 +46,7 @@ commit-backs w (slotNormal s u d) = refl
 commit-backs w (slotBackup s u d) = refl
 commit-backs w (slotTentative s u d t) = refl
 
-commit-copy : (w : ℕ) (x : Slot) (b : Back) → mainOn w x ≡ true → slotCopy (slotCommit x) bare ≡ committed (slotCopy x b)
+commit-copy : (w : ℕ) (x : Slot) (b : Back) → mainOn w x ≡ true → slotCopy (slotCommit x) bare ≡ committedCopy (slotCopy x b)
 commit-copy w vacant b h = refl
 commit-copy w (slotNormal s u d) b h = refl
 commit-copy w (slotBackup s u d) b h = refl
@@ -62,21 +62,21 @@ module _ (E : ℕ) (home : ℕ → ℕ) (slot slot′ : ℕ → Slot) (line line
         (λ i j w l l′ h t. absurd (true≢false (sym (rw (all j l′) at h) ∙ commit-backs w (slot j))))
         (λ w h. rw (sameLine (home w)) h)
 
-    committed-has : (w : ℕ) (k : Copy) → Has E home slot line w k → Has E home slot′ line′ w (committed k)
+    committed-has : (w : ℕ) (k : Copy) → Has E home slot line w k → Has E home slot′ line′ w (committedCopy k)
     committed-has w k (in-line h e) =
-        in-line {k = committed k} (rw (sameLine (home w)) h) (rw (sameLine (home w), ← e) (line-committed (line (home w))))
+        in-line {k = committedCopy k} (rw (sameLine (home w)) h) (rw (sameLine (home w), ← e) (line-committed (line (home w))))
       where
-        line-committed : (x : Line) → lineCopy x ≡ committed (lineCopy x)
+        line-committed : (x : Line) → lineCopy x ≡ committedCopy (lineCopy x)
         line-committed blank = refl
         line-committed (filled s u d) = refl
     committed-has w k (in-slot {b = b} i l r m bk e) =
-        in-slot {k = committed k} {b = bare} i l (rw (sameLine (home w)) r) (rw (all i l) (commit-main w (slot i) ∙ m))
+        in-slot {k = committedCopy k} {b = bare} i l (rw (sameLine (home w)) r) (rw (all i l) (commit-main w (slot i) ∙ m))
         (unbacked (λ j l′. rw (all j l′) (commit-backs w (slot j))) refl)
         (rw (all i l, ← e) (commit-copy w (slot i) b m))
     committed-has w k (nowhere r g y) =
-        nowhere {k = committed k} (rw (sameLine (home w)) r) (λ i l. rw (all i l) (commit-main w (slot i) ∙ g i l)) (ap committed y)
+        nowhere {k = committedCopy k} (rw (sameLine (home w)) r) (λ i l. rw (all i l) (commit-main w (slot i) ∙ g i l)) (ap committedCopy y)
 
-    pub look-committed : (w : ℕ) → look E home slot′ line′ w ≡ committed (look E home slot line w)
+    pub look-committed : (w : ℕ) → look E home slot′ line′ w ≡ committedCopy (look E home slot line w)
     look-committed w = looks E home slot′ line′ tidy-committed w _ (committed-has w _ (look-is E home slot line w))
 
   module _ (all : (i : ℕ) → i < E → slot′ i ≡ slotRollback (slot i)) where
@@ -111,10 +111,10 @@ module _ (E : ℕ) (home : ℕ → ℕ) (slot slot′ : ℕ → Slot) (line line
             go (inl a) = T .apart w i l (a .0)
             go (inr b) = let x = T .paired w i l b in T .apart w (x .0) (x .1) (main-tentative w (slot (x .0)) (x .2))
 
-    rolled-has : (w : ℕ) (k : Copy) → Has E home slot line w k → Has E home slot′ line′ w (rolledBack k)
-    rolled-has w k (in-line h e) = in-line {k = rolledBack k} (rw (sameLine (home w)) h) (rw (sameLine (home w), ← e) (line-rolled (line (home w))))
+    rolled-has : (w : ℕ) (k : Copy) → Has E home slot line w k → Has E home slot′ line′ w (rolledCopy k)
+    rolled-has w k (in-line h e) = in-line {k = rolledCopy k} (rw (sameLine (home w)) h) (rw (sameLine (home w), ← e) (line-rolled (line (home w))))
       where
-        line-rolled : (x : Line) → lineCopy x ≡ rolledBack (lineCopy x)
+        line-rolled : (x : Line) → lineCopy x ≡ rolledCopy (lineCopy x)
         line-rolled blank = refl
         line-rolled (filled s u d) = refl
     rolled-has w k (in-slot {b = b} i l r m bk e) = go (slot i) refl bk
@@ -125,20 +125,20 @@ module _ (E : ℕ) (home : ℕ → ℕ) (slot slot′ : ℕ → Slot) (line line
         ub : (j : ℕ) → j < E → backOn w (slot′ j) ≡ false
         ub j l′ = rw (all j l′) (rollback-backs w (slot j))
 
-        go : (x : Slot) → slot i ≡ x → Backs E home slot line w b → Has E home slot′ line′ w (rolledBack k)
+        go : (x : Slot) → slot i ≡ x → Backs E home slot line w b → Has E home slot′ line′ w (rolledCopy k)
         go vacant y bk = absurd (false≢true (rw y at m))
         go (slotNormal s u d) y bk =
-            in-slot {k = rolledBack k} {b = bare} i l r′ (rw (all i l, y) (rw y at m)) (unbacked ub refl) (rw (all i l, ← e, y))
+            in-slot {k = rolledCopy k} {b = bare} i l r′ (rw (all i l, y) (rw y at m)) (unbacked ub refl) (rw (all i l, ← e, y))
         go (slotBackup s u d) y bk = absurd (false≢true (rw y at m))
         go (slotTentative s u d t) y (backed j l′ h z) = from (slot j) refl
           where
-            from : (x : Slot) → slot j ≡ x → Has E home slot′ line′ w (rolledBack k)
+            from : (x : Slot) → slot j ≡ x → Has E home slot′ line′ w (rolledCopy k)
             from vacant q = absurd (false≢true (rw q at h))
             from (slotNormal s u d) q = absurd (false≢true (rw q at h))
             from (slotBackup s u d) q =
-                in-slot {k = rolledBack k} {b = bare} j l′ r′ (rw (all j l′, q) (rw q at h)) (unbacked ub refl) (rw (all j l′, ← e, y, ← z, q))
+                in-slot {k = rolledCopy k} {b = bare} j l′ r′ (rw (all j l′, q) (rw q at h)) (unbacked ub refl) (rw (all j l′, ← e, y, ← z, q))
             from (slotTentative s u d t) q = absurd (false≢true (rw q at h))
-        go (slotTentative s u d t) y (unbacked g z) = nowhere {k = rolledBack k} r′ off (rw (← e, y, ← z))
+        go (slotTentative s u d t) y (unbacked g z) = nowhere {k = rolledCopy k} r′ off (rw (← e, y, ← z))
           where
             off : (j : ℕ) → j < E → mainOn w (slot′ j) ≡ false
             off j l′ = not-true _ (λ h. on (rollback-main w (slot j) (rw (all j l′) at h)))
@@ -146,7 +146,7 @@ module _ (E : ℕ) (home : ℕ → ℕ) (slot slot′ : ℕ → Slot) (line line
                 on : ((mainOn w (slot j) ≡ true) × (tentativeOn w (slot j) ≡ false)) ⊎ (backOn w (slot j) ≡ true) → ⊥
                 on (inl a) = true≢false (cc (T .mains w i j l l′ m (a .0)))
                 on (inr c) = true≢false (sym c ∙ g j l′)
-    rolled-has w k (nowhere r g y) = nowhere {k = rolledBack k} (rw (sameLine (home w)) r) off (ap rolledBack y)
+    rolled-has w k (nowhere r g y) = nowhere {k = rolledCopy k} (rw (sameLine (home w)) r) off (ap rolledCopy y)
       where
         off : (i : ℕ) → i < E → mainOn w (slot′ i) ≡ false
         off i l = not-true _ (λ h. go (rollback-main w (slot i) (rw (all i l) at h)))
@@ -155,5 +155,5 @@ module _ (E : ℕ) (home : ℕ → ℕ) (slot slot′ : ℕ → Slot) (line line
             go (inl a) = true≢false (sym (a .0) ∙ g i l)
             go (inr b) = let x = T .paired w i l b in true≢false (sym (main-tentative w (slot (x .0)) (x .2)) ∙ g (x .0) (x .1))
 
-    pub look-rolled : (w : ℕ) → look E home slot′ line′ w ≡ rolledBack (look E home slot line w)
+    pub look-rolled : (w : ℕ) → look E home slot′ line′ w ≡ rolledCopy (look E home slot line w)
     look-rolled w = looks E home slot′ line′ tidy-rolled w _ (rolled-has w _ (look-is E home slot line w))

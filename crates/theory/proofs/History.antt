@@ -5,7 +5,7 @@ use Prim.Native.Nat.{ℕ}
 use Rattle.theory.specs.View.{View}
 use Rattle.theory.specs.Event.{Event}
 use Rattle.theory.proofs.Moves.{Run, done, quietly, showing}
-use Rattle.theory.specs.Plain.{Plain, Serial, Opaque, after, unlogged}
+use Rattle.theory.specs.Plain.{Plain, Serial, Opaque, afterEvents, unlogged}
 use Rattle.theory.proofs.Invariant.{Inv, serial}
 use Rattle.theory.proofs.Settled.{Within, settled, Coherent, Bare, bare-inv, serializable}
 use Rattle.theory.specs.Protocol.{Step}
@@ -33,5 +33,5 @@ last-within n b (then s b′ h) = last-within n b′ h
 
 pub history-serial : (n : ℕ) {es : List Event} {S S′ : View} → Bare S → History n S es S′
     → Serial es (unlogged (S .memory)) × Opaque es (unlogged (S .memory))
-    × ((w : ℕ) → settled n S′ w ≡ after es (unlogged (S .memory)) .val w) × Coherent n S′
+    × ((w : ℕ) → settled n S′ w ≡ afterEvents es (unlogged (S .memory)) .val w) × Coherent n S′
 history-serial n {S = S} z h = serializable n z (history-run n (bare-inv S z) (λ w p l. z w p) h) (last-within n (λ w p l. z w p) h)

@@ -6,18 +6,18 @@ use mathlib.Core.List.{List, [], _∷_}
 use Prim.Native.Nat.{ℕ}
 use native.Mathlib.Decide.{ℕ-discrete}
 use Rattle.theory.specs.View.{LineState, valid, reserved, dirty, Copy, none, regular, normal, tentative}
-use Rattle.theory.specs.View.{isDirty, isTentative, exclusive, owns, fine, ownValue, Word, View}
+use Rattle.theory.specs.View.{dirtyState, isTentative, exclusive, owns, fine, ownValue, Word, View}
 use Rattle.theory.proofs.Move.{Move, drop-regular, drop-normal, drop-backup, lower-regular, lower-normal, begin-backed, begin-bare}
 use Rattle.theory.proofs.Move.{fill-regular, fill-tentative, fill-backed, own-regular, own-tentative, own-backed, upgrade}
 use Rattle.theory.proofs.OneWord.{Alone, stored-tentative, stored, low-cell, alone-low, released, clean-value}
 use Rattle.theory.specs.Event.{Event, store, tread}
-use Rattle.theory.specs.Change.{At}
+use Rattle.theory.specs.Change.{OnlyWord}
 use Rattle.theory.proofs.Moves.{Silent, still, move, rollback, wake, sees, Shown, loads, stores, writes}
 use Rattle.theory.proofs.Moves.{treads, twrites, releases, commits, drops, Run, done, quietly, showing}
 use Rattle.theory.specs.Log.{put, Item, read, write, replay, forget}
 use Rattle.theory.proofs.Logs.{put-here, put-else, Good, good-copies, good-memory, good-empty}
 use Rattle.theory.proofs.Logs.{good-read, good-write, plain-tv, unstored, good-forget, Keeps}
-use Rattle.theory.specs.Plain.{Plain, next, Agrees, Serial, Sees, Opaque, after}
+use Rattle.theory.specs.Plain.{Plain, next, Explains, Serial, Sees, Opaque, afterEvents}
 use Rattle.theory.proofs.Agree.{Agree, agree-at, agree-silent, agree-commit, agree-flags, committed-tentative}
 
 pub record Inv (S : View) (P : Plain) : Type 0 where
@@ -58,7 +58,7 @@ move-keeps (own-backed a z) = ((λ h. refl), (λ h. absurd (false≢true h)))
 move-keeps (upgrade z) = ((λ h. h), (λ h. h))
 
 -- at one place
-module _ {S S′ : View} (p w : ℕ) (at : At p w S S′) where
+module _ {S S′ : View} (p w : ℕ) (at : OnlyWord p w S S′) where
   at-else : (u q : ℕ) → q ≢ p → S′ .copy u q ≡ S .copy u q
   at-else u q n = elim (ℕ-discrete u w) [ yes e ↦ rw e (at .proc-else q n) | no n′ ↦ at .word-else u n′ q ]
 
@@ -135,9 +135,9 @@ commit-else {m} {x} {c} p q W n t = go (c p) refl
     go (tentative reserved d b t) e = absurd (off (rw e))
     go (tentative dirty d b t) e = absurd (off (rw e))
 
-inv-store : {S S′ : View} {P : Plain} (p w : ℕ) {s : LineState} {v : ℕ} → Inv S P → At p w S S′ → isTentative (S .copy w p) ≡ false
+inv-store : {S S′ : View} {P : Plain} (p w : ℕ) {s : LineState} {v : ℕ} → Inv S P → OnlyWord p w S S′ → isTentative (S .copy w p) ≡ false
     → Alone (S .copy w) p
-    → S′ .copy w p ≡ regular s v → (isDirty s ≡ false → S′ .memory w ≡ v) → Inv S′ (next (store p w v) P)
+    → S′ .copy w p ≡ regular s v → (dirtyState s ≡ false → S′ .memory w ≡ v) → Inv S′ (next (store p w v) P)
 inv-store {S} {S′} {P} p w {s} {v} I at was al here g = record {
   agree = agree-at p w (I .agree) at (rw (put-here (P .val) w v) (stored (I .agree .words w) p al here (at .proc-else) g))
       (λ u n. put-else (P .val) w v u n) (λ h. absurd (true≢false (cc)));
@@ -149,7 +149,7 @@ inv-store {S} {S′} {P} p w {s} {v} I at was al here g = record {
     free : (q : ℕ) → isTentative (S .copy w q) ≡ true → ⊥
     free q t = elim (ℕ-discrete q p) [ yes e ↦ true≢false (cc) | no n ↦ true≢false (cc (al q n)) ]
 
-pub inv-shown : {S S′ : View} {P : Plain} {e : Event} → Inv S P → Shown S S′ e → Agrees e P × Inv S′ (next e P)
+pub inv-shown : {S S′ : View} {P : Plain} {e : Event} → Inv S P → Shown S S′ e → Explains e P × Inv S′ (next e P)
 inv-shown {S} {S′} {P} I (loads p w {x} e h) = (sees-fine (S .copy w p) x (P .val w) h (I .agree .words w .holds p), inv-silent I (still e))
 inv-shown {S} {S′} {P} I (stores p w at was u here) =
     (tt, inv-store p w I at (rw was) (λ q n. I .agree .words w .only p q (rw was u) n) here (λ h. absurd (true≢false h)))
@@ -218,7 +218,7 @@ sees-shown I (commits p st c) = tt
 sees-shown I (drops p none-tentative c) = tt
 
 -- the theorem: a run from a state that agrees with a plain one is a run of the plain machine
-pub serial : {S S′ : View} {P : Plain} {es : List Event} → Inv S P → Run S es S′ → Serial es P × Opaque es P × Inv S′ (after es P)
+pub serial : {S S′ : View} {P : Plain} {es : List Event} → Inv S P → Run S es S′ → Serial es P × Opaque es P × Inv S′ (afterEvents es P)
 serial I done = (tt, tt, I)
 serial I (quietly s r) = serial (inv-silent I s) r
 serial {P = P} I (showing {e = e} s r) =

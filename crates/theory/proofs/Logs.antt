@@ -34,10 +34,10 @@ unfolding put
 put-same f g w v u e = ap (pickDec (ℕ-discrete u w) v) e
 
 -- every word of the log is held tentatively, and as stored to where the log writes it
-abbrev pub Held : List Item → (ℕ → Copy) → Type 0
-Held [] c = Unit {0}
-Held (read w x ∷ l) c = (isTentative (c w) ≡ true) × Held l c
-Held (write w v ∷ l) c = (isTentative (c w) ≡ true) × (isStored (c w) ≡ true) × Held l c
+abbrev pub Obtained : List Item → (ℕ → Copy) → Type 0
+Obtained [] c = Unit {0}
+Obtained (read w x ∷ l) c = (isTentative (c w) ≡ true) × Obtained l c
+Obtained (write w v ∷ l) c = (isTentative (c w) ≡ true) × (isStored (c w) ≡ true) × Obtained l c
 
 abbrev pub Keeps : Copy → Copy → Type 0
 Keeps k k′ = (isTentative k ≡ true → isTentative k′ ≡ true) × (isStored k ≡ true → isStored k′ ≡ true)
@@ -45,16 +45,16 @@ Keeps k k′ = (isTentative k ≡ true → isTentative k′ ≡ true) × (isStor
 -- the log replays on M, and what it leaves is what the processor sees in its transaction
 pub record Good (l : List Item) (M : ℕ → ℕ) (c : ℕ → Copy) : Type 0 where
   pub reads : Replays l M
-  pub held : Held l c
+  pub held : Obtained l c
   pub vals : (w : ℕ) → replay l M w ≡ ownValue (c w) (M w)
 
-pub held-mono : (l : List Item) (c c′ : ℕ → Copy) → ((w : ℕ) → Keeps (c w) (c′ w)) → Held l c → Held l c′
+pub held-mono : (l : List Item) (c c′ : ℕ → Copy) → ((w : ℕ) → Keeps (c w) (c′ w)) → Obtained l c → Obtained l c′
 held-mono [] c c′ g h = tt
 held-mono (read w x ∷ l) c c′ g h = (g w .0 (h .0), held-mono l c c′ g (h .1))
 held-mono (write w v ∷ l) c c′ g h = (g w .0 (h .0), g w .1 (h .1), held-mono l c c′ g (h .2))
 
 -- a word that is not held is not written by the log
-pub untouched : (l : List Item) (M : ℕ → ℕ) (c : ℕ → Copy) → Held l c → (w : ℕ) → isTentative (c w) ≡ false → replay l M w ≡ M w
+pub untouched : (l : List Item) (M : ℕ → ℕ) (c : ℕ → Copy) → Obtained l c → (w : ℕ) → isTentative (c w) ≡ false → replay l M w ≡ M w
 unfolding replay
 untouched [] M c h w t = refl
 untouched (read u x ∷ l) M c h w t = untouched l M c (h .1) w t
@@ -67,7 +67,7 @@ module _ (M M′ : ℕ → ℕ) (c : ℕ → Copy) (same : (w : ℕ) → isTenta
   replay-same (read u x ∷ l) w t = replay-same l w t
   replay-same (write u v ∷ l) w t = put-same (replay l M′) (replay l M) u v w (replay-same l w t)
 
-  reads-same : (l : List Item) → Held l c → Replays l M → Replays l M′
+  reads-same : (l : List Item) → Obtained l c → Replays l M → Replays l M′
   reads-same [] h r = tt
   reads-same (read u x ∷ l) h r = (replay-same l u (h .0) ∙ r .0, reads-same l (h .1) (r .1))
   reads-same (write u v ∷ l) h r = reads-same l (h .2) r
@@ -143,12 +143,12 @@ forget-reads w (read v x ∷ l) M r = one (ℕ-discrete v w) (forget-reads w l M
     one (no n) h = (forget-replay w l M v ∙ r .0, h)
 forget-reads w (write v x ∷ l) M r = forget-reads w l M r
 
-forget-held : (w : ℕ) (l : List Item) (c c′ : ℕ → Copy) → isStored (c w) ≡ false → ((u : ℕ) → u ≢ w → c′ u ≡ c u) → Held l c → Held (forget w l) c′
+forget-held : (w : ℕ) (l : List Item) (c c′ : ℕ → Copy) → isStored (c w) ≡ false → ((u : ℕ) → u ≢ w → c′ u ≡ c u) → Obtained l c → Obtained (forget w l) c′
 unfolding forget pickDec
 forget-held w [] c c′ i s h = tt
 forget-held w (read v x ∷ l) c c′ i s h = one (ℕ-discrete v w) (forget-held w l c c′ i s (h .1))
   where
-    one : (d : Dec (v ≡ w)) → Held (forget w l) c′ → Held (pickDec d (forget w l) (read v x ∷ forget w l)) c′
+    one : (d : Dec (v ≡ w)) → Obtained (forget w l) c′ → Obtained (pickDec d (forget w l) (read v x ∷ forget w l)) c′
     one (yes e) k = k
     one (no n) k = (rw (s v n) (h .0), k)
 forget-held w (write v x ∷ l) c c′ i s h = (rw (s v n) (h .0), rw (s v n) (h .1), forget-held w l c c′ i s (h .2))

@@ -4,7 +4,7 @@ use mathlib.Core.Logic.{_≢_, _⊎_, inl, inr}
 use mathlib.Core.Bool.{Bool, true, false, true≢false, false≢true}
 use Prim.Native.Nat.{ℕ}
 use Rattle.theory.specs.View.{wrote, dried, has, LineState, valid, reserved, dirty, Back, bare, backup, Copy}
-use Rattle.theory.specs.View.{none, regular, normal, tentative, above, isDirty, exclusive, owns, fine, Word}
+use Rattle.theory.specs.View.{none, regular, normal, tentative, above, dirtyState, exclusive, owns, fine, Word}
 use Rattle.theory.proofs.OneWord.{Alone, Low, alone-low, back-raise, below-self, below-valid, low-cell, quiet}
 
 -- what a processor may do with its own copy of a word without changing the word's settled value.
@@ -15,7 +15,7 @@ pub data Move (live low alone : Type 0) : ℕ → Copy → ℕ → Copy → Type
   drop-backup : {m d e : ℕ} {s r : LineState} {f : Bool} → Move live low alone m (tentative s d (backup r e) f) (wrote r e m) (tentative s d bare f)
   lower-regular : {m d : ℕ} {s : LineState} → Move live low alone m (regular s d) (wrote s d m) (regular valid d)
   lower-normal : {m d : ℕ} {s : LineState} → Move live low alone m (normal s d) (wrote s d m) (normal valid d)
-  begin-backed : {m d : ℕ} {s : LineState} {f : Bool} → live → (f ≡ true → isDirty s ≡ true)
+  begin-backed : {m d : ℕ} {s : LineState} {f : Bool} → live → (f ≡ true → dirtyState s ≡ true)
       → Move live low alone m (normal s d) m (tentative s d (backup s d) f)
   begin-bare : {m d : ℕ} {s : LineState} → live → Move live low alone m (normal s d) (wrote s d m) (tentative (dried s) d bare false)
   fill-regular : {m : ℕ} → low → Move live low alone m none m (regular valid m)
@@ -31,7 +31,7 @@ dried-above valid h = h
 dried-above reserved h = h
 dried-above dirty h = refl
 
-pub wrote-is : (s : LineState) {d m x : ℕ} → d ≡ x → (isDirty s ≡ false → m ≡ x) → wrote s d m ≡ x
+pub wrote-is : (s : LineState) {d m x : ℕ} → d ≡ x → (dirtyState s ≡ false → m ≡ x) → wrote s d m ≡ x
 wrote-is valid f g = g refl
 wrote-is reserved f g = g refl
 wrote-is dirty f g = f

@@ -5,7 +5,7 @@ use mathlib.Core.Bool.{Bool, true, false, true≢false, false≢true}
 use Prim.Native.Nat.{ℕ}
 use native.Mathlib.Decide.{ℕ-discrete}
 use Rattle.theory.specs.View.{has, LineState, valid, reserved, dirty, Back, bare, backup, Copy, none, regular, normal, tentative}
-use Rattle.theory.specs.View.{above, isDirty, below, exclusive, backDirty, owns, fineBack, fine, ownValue, rolledBack, committed, Word}
+use Rattle.theory.specs.View.{above, dirtyState, below, exclusive, backDirty, owns, fineBack, fine, ownValue, rolledCopy, committedCopy, Word}
 
 pub changed : {m m′ x x′ : ℕ} {c c′ : ℕ → Copy} {p : ℕ} {k : Copy}
     → Word m c x
@@ -32,12 +32,12 @@ changed {m} {m′} {x} {x′} {c} {c′} {p} {k} W here else ex₁ ex₂ f₁ f�
         go (no n′) (yes e) = rw e (here ∙ ex₂ r n′ (cc (else r n′)))
         go (no n′) (no n″) = else q n″ ∙ W .only r q (cc (else r n′)) n
 
-pub dirty-above : (s : LineState) → isDirty s ≡ true → above s ≡ true
+pub dirty-above : (s : LineState) → dirtyState s ≡ true → above s ≡ true
 dirty-above valid h = h
 dirty-above reserved h = refl
 dirty-above dirty h = refl
 
-pub valid-clean : (s : LineState) → above s ≡ false → isDirty s ≡ false
+pub valid-clean : (s : LineState) → above s ≡ false → dirtyState s ≡ false
 valid-clean valid h = refl
 valid-clean reserved h = refl
 valid-clean dirty h = h
@@ -57,7 +57,7 @@ below-above valid s u h = absurd (false≢true u)
 below-above reserved s u h = h
 below-above dirty s u h = dirty-above s h
 
-pub below-clean : (r s : LineState) → isDirty s ≡ false → below r s → isDirty r ≡ false
+pub below-clean : (r s : LineState) → dirtyState s ≡ false → below r s → dirtyState r ≡ false
 below-clean valid s u h = refl
 below-clean reserved s u h = refl
 below-clean dirty s u h = sym h ∙ u
@@ -71,12 +71,12 @@ pub back-raise : (b : Back) (s s′ : LineState) (x : ℕ) → ((r : LineState) 
 back-raise bare s s′ x g f = tt
 back-raise (backup r e) s s′ x g f = (f .0, g r (f .1))
 
-pub clean-backup : (b : Back) (s : LineState) (x : ℕ) → isDirty s ≡ false → fineBack b s x → backDirty b ≡ false
+pub clean-backup : (b : Back) (s : LineState) (x : ℕ) → dirtyState s ≡ false → fineBack b s x → backDirty b ≡ false
 clean-backup bare s x h f = refl
 clean-backup (backup r e) s x h f = below-clean r s h (f .1)
 
 -- a tentative copy that is not DIRTY holds the settled value
-pub clean-value : (s : LineState) (d : ℕ) (b : Back) (t : Bool) (x : ℕ) → fine (tentative s d b t) x → isDirty s ≡ false → d ≡ x
+pub clean-value : (s : LineState) (d : ℕ) (b : Back) (t : Bool) (x : ℕ) → fine (tentative s d b t) x → dirtyState s ≡ false → d ≡ x
 clean-value s d b false x f h = f .0 refl
 clean-value s d b true x f h = absurd (true≢false (sym (f .1 refl) ∙ h))
 
@@ -96,27 +96,27 @@ Alone c p = (q : ℕ) → q ≢ p → c q ≡ none
 pub alone-low : {c : ℕ → Copy} {p : ℕ} → Alone c p → Low c p
 alone-low a q n = rw (a q n)
 
-pub rolled-exclusive : (k : Copy) (x : ℕ) → fine k x → exclusive (rolledBack k) ≡ true → exclusive k ≡ true
+pub rolled-exclusive : (k : Copy) (x : ℕ) → fine k x → exclusive (rolledCopy k) ≡ true → exclusive k ≡ true
 rolled-exclusive none x f h = h
 rolled-exclusive (regular s d) x f h = h
 rolled-exclusive (normal s d) x f h = h
 rolled-exclusive (tentative s d bare t) x f h = absurd (false≢true h)
 rolled-exclusive (tentative s d (backup r e) t) x f h = below-above r s h (f .2 .1)
 
-pub rolled-none : (k : Copy) → has k ≡ false → rolledBack k ≡ none
+pub rolled-none : (k : Copy) → has k ≡ false → rolledCopy k ≡ none
 rolled-none none h = refl
 rolled-none (regular s d) h = absurd (true≢false h)
 rolled-none (normal s d) h = absurd (true≢false h)
 rolled-none (tentative s d b t) h = absurd (true≢false h)
 
-pub rolled-fine : (k : Copy) (x : ℕ) → fine k x → fine (rolledBack k) x
+pub rolled-fine : (k : Copy) (x : ℕ) → fine k x → fine (rolledCopy k) x
 rolled-fine none x f = f
 rolled-fine (regular s d) x f = f
 rolled-fine (normal s d) x f = f
 rolled-fine (tentative s d bare t) x f = tt
 rolled-fine (tentative s d (backup r e) t) x f = f .2 .0
 
-pub rolled-owns : (k : Copy) → owns (rolledBack k) ≡ owns k
+pub rolled-owns : (k : Copy) → owns (rolledCopy k) ≡ owns k
 rolled-owns none = refl
 rolled-owns (regular s d) = refl
 rolled-owns (normal s d) = refl
@@ -180,25 +180,25 @@ module _ {m x : ℕ} {c : ℕ → Copy} (W : Word m c x) where
       → Alone c p
       → c′ p ≡ regular s v
       → ((q : ℕ) → q ≢ p → c′ q ≡ c q)
-      → (isDirty s ≡ false → m′ ≡ v)
+      → (dirtyState s ≡ false → m′ ≡ v)
       → Word m′ c′ v
   stored p {s} {v} al here else g =
       changed W here else (λ h. al) (λ q n h. absurd (false≢true (rw (al q n) at h))) refl (λ q n. rw (al q n) tt) (λ h o. g h)
 
   pub rolled : {c′ : ℕ → Copy} (p : ℕ)
-      → c′ p ≡ rolledBack (c p)
+      → c′ p ≡ rolledCopy (c p)
       → ((q : ℕ) → q ≢ p → c′ q ≡ c q)
       → Word m c′ x
   rolled p here else = quiet p refl here else (λ h. inl (rolled-exclusive (c p) x (W .holds p) h)) (λ h. inl (rolled-none (c p) h))
       (rolled-fine (c p) x (W .holds p)) (λ g h. g (sym (rolled-owns (c p)) ∙ h))
 
   pub committedWord : {c′ : ℕ → Copy} (p : ℕ)
-      → c′ p ≡ committed (c p)
+      → c′ p ≡ committedCopy (c p)
       → ((q : ℕ) → q ≢ p → c′ q ≡ c q)
       → Word m c′ (ownValue (c p) x)
   committedWord {c′} p here else = go (c p) refl here
     where
-      go : (k : Copy) → c p ≡ k → c′ p ≡ committed k → Word m c′ (ownValue k x)
+      go : (k : Copy) → c p ≡ k → c′ p ≡ committedCopy k → Word m c′ (ownValue k x)
       go none was here = quiet p was here else inl (λ h. inl refl) tt (λ g h. g h)
       go (regular s d) was here = quiet p was here else inl (λ h. absurd (true≢false h)) (rw was at (W .holds p)) (λ g h. g h)
       go (normal s d) was here = quiet p was here else inl (λ h. absurd (true≢false h)) (rw was at (W .holds p)) (λ g h. g h)
@@ -210,10 +210,10 @@ module _ {m x : ℕ} {c : ℕ → Copy} (W : Word m c x) where
           gone : (q : ℕ) → q ≢ p → exclusive (c q) ≡ true → normal s d ≡ none
           gone q n h = let z : true ≡ false = cc (W .only q p h (λ e. n (sym e))) in absurd (true≢false z)
 
-          others : (s : LineState) → c p ≡ tentative s d b t → (isDirty s ≡ false → d ≡ x) → (q : ℕ) → q ≢ p → fine (c q) d
+          others : (s : LineState) → c p ≡ tentative s d b t → (dirtyState s ≡ false → d ≡ x) → (q : ℕ) → q ≢ p → fine (c q) d
           others valid was g q n = rw (g refl) (W .holds q)
           others reserved was g q n = rw (W .only p q (rw was) n) tt
           others dirty was g q n = rw (W .only p q (rw was) n) tt
 
-          low-cell′ : isDirty s ≡ false → ((q : ℕ) → q ≢ p → owns (c q) ≡ false) → fine (tentative s d b t) x → m ≡ x
+          low-cell′ : dirtyState s ≡ false → ((q : ℕ) → q ≢ p → owns (c q) ≡ false) → fine (tentative s d b t) x → m ≡ x
           low-cell′ h o f = W .cell (λ q. elim (ℕ-discrete q p) [ yes e ↦ rw (e, was) (clean-backup b s x h (f .2)) | no n ↦ o q n ])

@@ -10,7 +10,7 @@ use Rattle.theory.proofs.OneWord.{valid-clean}
 use Rattle.theory.proofs.Move.{drop-regular, drop-normal, drop-backup, begin-backed, begin-bare}
 use Rattle.theory.proofs.Move.{fill-regular, fill-tentative, fill-backed, own-tentative, own-backed, upgrade}
 use Rattle.theory.specs.Event.{Event, load, drop}
-use Rattle.theory.specs.Change.{Live, At, OnlyProcessor, same, Same}
+use Rattle.theory.specs.Change.{Live, OnlyWord, OnlyProcessor, same, Same}
 use Rattle.theory.proofs.Moves.{Silent, still, move, wake, sees, Shown, loads, stores, writes, treads}
 use Rattle.theory.proofs.Moves.{twrites, commits, drops, Run, done, quietly, showing, run-then, run-one}
 use Rattle.theory.proofs.Agree.{Agree, rolledBack-tentative}
@@ -24,7 +24,7 @@ freed-silent p (Protocol.regular-freed u at was here m) = move p u at refl m was
 freed-silent p (Protocol.normal-freed u at was here m) = move p u at refl m was here drop-normal
 freed-silent p (Protocol.backup-freed u at was here m) = move p u at refl m was here drop-backup
 
-pub at-other : {S S′ : View} {p u : ℕ} → At p u S S′ → (w q : ℕ) → q ≢ p → S′ .copy w q ≡ S .copy w q
+pub at-other : {S S′ : View} {p u : ℕ} → OnlyWord p u S S′ → (w q : ℕ) → q ≢ p → S′ .copy w q ≡ S .copy w q
 at-other {S} {S′} {p} {u} at w q n = elim (ℕ-discrete w u) [ yes e ↦ rw e (at .proc-else q n) | no i ↦ at .word-else w i q ]
 
 pub freed-other : {S S′ : View} {p : ℕ} → Protocol.Freed p S S′ → (w q : ℕ) → q ≢ p → S′ .copy w q ≡ S .copy w q
@@ -111,7 +111,7 @@ pub record Live→ (p w : ℕ) (S S′ : View) : Type 0 where
   pub lives : Live S′ p
   pub others : (q : ℕ) → q ≢ p → S′ .copy w q ≡ S .copy w q
 
-at-live : {S S′ : View} {p w : ℕ} → At p w S S′ → Live S p → Live S′ p
+at-live : {S S′ : View} {p w : ℕ} → OnlyWord p w S S′ → Live S p → Live S′ p
 at-live {p = p} at l = (at .active-same p ∙ l .0, at .status-same p ∙ l .1)
 
 begun-run : {S S′ : View} (p w : ℕ) → Live S p → Protocol.Begun p w S S′ → Live→ p w S S′
@@ -147,7 +147,7 @@ far-live f a q l i = a .others q i ∙ f q l i
 phase-live : {n p w : ℕ} {S S′ : View} → Live S p → Phase n p w S S′ → Live S′ p
 phase-live l ph = (ph .keeps .active-kept ∙ l .0, ph .keeps .status-kept ∙ l .1)
 
-held-run : {S S′ : View} (k : Protocol.Kind) (n p w : ℕ) → Far n p w S → Live S p → Protocol.Held k n p w S S′ → Run S [] S′
+held-run : {S S′ : View} (k : Protocol.Kind) (n p w : ℕ) → Far n p w S → Live S p → Protocol.Obtained k n p w S S′ → Run S [] S′
 held-run k n p w f l (Protocol.has-it was en s) = run-one (still s)
 held-run k n p w f l (Protocol.raises was g at here m) =
     let s = by-grant Protocol.owning n p w f g in
@@ -185,7 +185,7 @@ dead-bare {S} p A d w = go (isTentative (S .copy w p)) refl
     go true e = absurd (true≢false (sym (A .live w p e .1) ∙ d))
     go false e = refl
 
-held-above : {S S′ : View} (n p w : ℕ) {s : LineState} {x : ℕ} {b : Back} {t : Bool} → Protocol.Held Protocol.owning n p w S S′
+held-above : {S S′ : View} (n p w : ℕ) {s : LineState} {x : ℕ} {b : Back} {t : Bool} → Protocol.Obtained Protocol.owning n p w S S′
     → S′ .copy w p ≡ tentative s x b t
     → above s ≡ true
 held-above n p w (Protocol.has-it was en i) h = cc (i .copy-same w p)

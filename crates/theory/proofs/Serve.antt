@@ -6,10 +6,10 @@ use mathlib.Core.List.{[]}
 use Prim.Native.Nat.{ℕ, suc, _≤_, _<_}
 use native.Mathlib.Decide.{ℕ-discrete, decLt}
 use native.Mathlib.Omega.{arith}
-use Rattle.theory.specs.View.{valid, reserved, dirty, bare, backup, Copy, none, regular, normal, tentative, exclusive, rolledBack, View}
+use Rattle.theory.specs.View.{valid, reserved, dirty, bare, backup, Copy, none, regular, normal, tentative, exclusive, rolledCopy, View}
 use Rattle.theory.proofs.OneWord.{Low, Alone}
 use Rattle.theory.proofs.Move.{drop-regular, drop-normal, lower-regular, lower-normal}
-use Rattle.theory.specs.Change.{At, Same}
+use Rattle.theory.specs.Change.{OnlyWord, Same}
 use Rattle.theory.proofs.Moves.{Silent, still, move, rollback, Run, done, run-then, run-one}
 use Rattle.theory.proofs.Agree.{rolledBack-tentative}
 use Rattle.theory.specs.Protocol
@@ -26,7 +26,7 @@ pub record Phase (n p w : ℕ) (S S′ : View) : Type 0 where
   pub keeps : Kept p w S S′
   pub far : (q : ℕ) → n ≤ q → q ≢ p → S′ .copy w q ≡ S .copy w q
 
-pub at-still : {S S′ : View} (p w : ℕ) → At p w S S′ → S′ .copy w p ≡ S .copy w p → S′ .memory w ≡ S .memory w → Same S S′
+pub at-still : {S S′ : View} (p w : ℕ) → OnlyWord p w S S′ → S′ .copy w p ≡ S .copy w p → S′ .memory w ≡ S .memory w → Same S S′
 at-still {S} {S′} p w at e m = record {
   memory-same = λ u. elim (ℕ-discrete u w) [ yes i ↦ rw i m | no n ↦ at .memory-else u n ];
   copy-same = λ u q. cs u q (ℕ-discrete u w) (ℕ-discrete q p);
@@ -41,11 +41,11 @@ at-still {S} {S′} p w at e m = record {
 
 -- one processor answers a request
 snoop-silent : {S S′ : View} (k : Protocol.Kind) (p w q : ℕ) → Protocol.Snooped (Protocol.snoops k) Protocol.supplied p w q S S′
-    → (q ≢ p → Protocol.refuses k (S .copy w q) ≡ false) → Silent S S′
+    → (q ≢ p → Protocol.opposing k (S .copy w q) ≡ false) → Silent S S′
 snoop-silent k p w q (Protocol.own e s) h = still s
 snoop-silent {S} {S′} k p w q (Protocol.other n at e m) h = go k (S .copy w q) refl (h n) e m
   where
-    go : (k : Protocol.Kind) (c : Copy) → S .copy w q ≡ c → Protocol.refuses k c ≡ false → S′ .copy w q ≡ Protocol.snoops k c
+    go : (k : Protocol.Kind) (c : Copy) → S .copy w q ≡ c → Protocol.opposing k c ≡ false → S′ .copy w q ≡ Protocol.snoops k c
         → S′ .memory w ≡ Protocol.supplied c (S .memory w) → Silent S S′
     go Protocol.reading none i r e m = still (at-still q w at (e ∙ sym i) m)
     go Protocol.reading (regular s d) i r e m = move q w at refl m i e lower-regular
@@ -84,7 +84,7 @@ pub record Asked (k : Protocol.Kind) (n p w : ℕ) (S S′ : View) : Type 0 wher
   pub phase : Phase n p w S S′
   pub near : (q : ℕ) → q < n → q ≢ p → S′ .copy w q ≡ Protocol.snoops k (S .copy w q)
 
-pub asked : {S S′ : View} (k : Protocol.Kind) (n p w : ℕ) → ((q : ℕ) → q ≢ p → Protocol.refuses k (S .copy w q) ≡ false)
+pub asked : {S S′ : View} (k : Protocol.Kind) (n p w : ℕ) → ((q : ℕ) → q ≢ p → Protocol.opposing k (S .copy w q) ≡ false)
     → Protocol.Each (Protocol.Snooped (Protocol.snoops k) Protocol.supplied p w) n S S′ → Asked k n p w S S′
 asked k n p w h Protocol.start = record { phase = record { runs = done; keeps = kept-refl; far = λ q l i. refl }; near = λ q l i. absurd (omega arith) }
 asked {S} {S′} k n p w h (Protocol.and-then {n = n₁} {S₁ = S₁} c r) = snoc (asked k n₁ p w h c)
@@ -111,13 +111,13 @@ pub record Served (k : Protocol.Kind) (n p w : ℕ) (S S′ : View) : Type 0 whe
   pub phase : Phase n p w S S′
   pub gives : Gives k (S′ .copy w) p
 
-shared-exclusive : (c : Copy) → exclusive (Protocol.shared c) ≡ false
+shared-exclusive : (c : Copy) → exclusive (Protocol.sharedCopy c) ≡ false
 shared-exclusive none = refl
 shared-exclusive (regular s d) = refl
 shared-exclusive (normal s d) = refl
 shared-exclusive (tentative s d b t) = refl
 
-taken-none : (c : Copy) → Protocol.taken c ≡ none
+taken-none : (c : Copy) → Protocol.takenCopy c ≡ none
 taken-none none = refl
 taken-none (regular s d) = refl
 taken-none (normal s d) = refl
@@ -154,7 +154,7 @@ module _ {so : Copy → Bool} {p w q : ℕ} {S S′ : View} where
   rollif-else (Protocol.spared h s) r i = s .copy-same w r
   rollif-else (Protocol.rolls-back n h u) r i = u .cache .else w r i
 
-  rollif-here : Protocol.RollIf so p w q S S′ → q ≢ p → ((c : Copy) → so (rolledBack c) ≡ false) → so (S′ .copy w q) ≡ false
+  rollif-here : Protocol.RollIf so p w q S S′ → q ≢ p → ((c : Copy) → so (rolledCopy c) ≡ false) → so (S′ .copy w q) ≡ false
   rollif-here (Protocol.spared (inl e) s) i z = absurd (i e)
   rollif-here (Protocol.spared (inr e) s) i z = rw (s .copy-same w q) e
   rollif-here (Protocol.rolls-back n h u) i z = rw (u .cache .here w) (z (S .copy w q))
@@ -169,7 +169,7 @@ pub record Cleared (so : Copy → Bool) (n p w : ℕ) (S S′ : View) : Type 0 w
   pub phase : Phase n p w S S′
   pub near : (q : ℕ) → q < n → q ≢ p → so (S′ .copy w q) ≡ false
 
-pub cleared : {S S′ : View} (so : Copy → Bool) → ((c : Copy) → so (rolledBack c) ≡ false) → (n p w : ℕ)
+pub cleared : {S S′ : View} (so : Copy → Bool) → ((c : Copy) → so (rolledCopy c) ≡ false) → (n p w : ℕ)
     → Protocol.Each (Protocol.RollIf so p w) n S S′ → Cleared so n p w S S′
 cleared so z n p w Protocol.start = record { phase = record { runs = done; keeps = kept-refl; far = λ q l i. refl }; near = λ q l i. absurd (omega arith) }
 cleared {S} {S′} so z n p w (Protocol.and-then {n = n₁} {S₁ = S₁} c r) = snoc (cleared so z n₁ p w c)
@@ -187,25 +187,25 @@ cleared {S} {S′} so z n p w (Protocol.and-then {n = n₁} {S₁ = S₁} c r) =
       ];
     }
 
-pub refuses-roll : (k : Protocol.Kind) (c : Copy) → Protocol.refuses k (rolledBack c) ≡ false
-refuses-roll Protocol.reading none = refl
-refuses-roll Protocol.reading (regular s d) = refl
-refuses-roll Protocol.reading (normal s d) = refl
-refuses-roll Protocol.reading (tentative s d bare t) = refl
-refuses-roll Protocol.reading (tentative s d (backup r e) t) = refl
-refuses-roll Protocol.owning c = rolledBack-tentative c
+pub opposing-roll : (k : Protocol.Kind) (c : Copy) → Protocol.opposing k (rolledCopy c) ≡ false
+opposing-roll Protocol.reading none = refl
+opposing-roll Protocol.reading (regular s d) = refl
+opposing-roll Protocol.reading (normal s d) = refl
+opposing-roll Protocol.reading (tentative s d bare t) = refl
+opposing-roll Protocol.reading (tentative s d (backup r e) t) = refl
+opposing-roll Protocol.owning c = rolledBack-tentative c
 
-pub refuses-none : (k : Protocol.Kind) → Protocol.refuses k none ≡ false
-refuses-none Protocol.reading = refl
-refuses-none Protocol.owning = refl
+pub opposing-none : (k : Protocol.Kind) → Protocol.opposing k none ≡ false
+opposing-none Protocol.reading = refl
+opposing-none Protocol.owning = refl
 
 phase-trans : {n p w : ℕ} {S S₁ S₂ : View} → Phase n p w S S₁ → Phase n p w S₁ S₂ → Phase n p w S S₂
 phase-trans a b = record { runs = run-then (a .runs) (b .runs); keeps = kept-trans (a .keeps) (b .keeps); far = λ q l i. b .far q l i ∙ a .far q l i }
 
 pub by-plain : {S S′ : View} (k : Protocol.Kind) (n p w : ℕ) → Far n p w S → Protocol.Plainly k n p w S S′ → Served k n p w S S′
 by-plain k n p w f g =
-    let a = cleared (Protocol.refuses k) (refuses-roll k) n p w (g .rolls) in
+    let a = cleared (Protocol.opposing k) (opposing-roll k) n p w (g .rolls) in
     let f′ = far-after f (a .phase) in
     let b = served k n p w f′
-    (asked k n p w (λ q i. elim (decLt q n) [ yes l ↦ a .near q l i | no l ↦ rw (f′ q (omega arith) i) (refuses-none k) ]) (g .asks)) in
+    (asked k n p w (λ q i. elim (decLt q n) [ yes l ↦ a .near q l i | no l ↦ rw (f′ q (omega arith) i) (opposing-none k) ]) (g .asks)) in
     record { phase = phase-trans (a .phase) (b .phase); gives = b .gives }

@@ -7,13 +7,13 @@ use Prim.Native.Nat.{ℕ, zero, suc, _≤_, _<_}
 use native.Mathlib.Decide.{ℕ-discrete, decLt}
 use native.Mathlib.Omega.{arith}
 use Rattle.theory.specs.View.{LineState, Back, bare, backup, Copy, none, regular, normal, tentative, above}
-use Rattle.theory.specs.View.{isDirty, below, isTentative, exclusive, owns, fineBack, fine, has, Word, View}
+use Rattle.theory.specs.View.{dirtyState, below, isTentative, exclusive, owns, fineBack, fine, has, Word, View}
 use Rattle.theory.proofs.OneWord.{owns-exclusive, clean-backup, clean-value, below-above, below-clean, dirty-above}
 use Rattle.theory.specs.Event.{Event}
 use Rattle.theory.specs.Change.{Live}
 use Rattle.theory.proofs.Moves.{Run}
 use Rattle.theory.proofs.Logs.{good-empty}
-use Rattle.theory.specs.Plain.{Serial, Opaque, after, unlogged}
+use Rattle.theory.specs.Plain.{Serial, Opaque, afterEvents, unlogged}
 use Rattle.theory.proofs.Agree.{Agree}
 use Rattle.theory.proofs.Invariant.{Inv, serial}
 
@@ -65,14 +65,14 @@ backUp (backup r e) = above r
 
 abbrev pub backAgrees : Back → ℕ → Type 0
 backAgrees bare m = Unit {0}
-backAgrees (backup r e) m = isDirty r ≡ false → e ≡ m
+backAgrees (backup r e) m = dirtyState r ≡ false → e ≡ m
 
 -- VALID and RESERVED data equal memory
 abbrev pub agrees : Copy → ℕ → Type 0
 agrees none m = Unit {0}
-agrees (regular s d) m = isDirty s ≡ false → d ≡ m
-agrees (normal s d) m = isDirty s ≡ false → d ≡ m
-agrees (tentative s d b t) m = (isDirty s ≡ false → d ≡ m) × backAgrees b m
+agrees (regular s d) m = dirtyState s ≡ false → d ≡ m
+agrees (normal s d) m = dirtyState s ≡ false → d ≡ m
+agrees (tentative s d b t) m = (dirtyState s ≡ false → d ≡ m) × backAgrees b m
 
 -- a backup's state is not above its tentative copy's
 abbrev pub backBelow : Back → LineState → Type 0
@@ -133,12 +133,12 @@ agree→coherent {S} {M} n A b = record {
       (λ h. f .2 .0 ∙ sym (clean-cell (A .words w) p e refl h)),
     )
 
--- the view is taken with every DIRTY tentative copy as stored to
+-- the view is takenCopy with every DIRTY tentative copy as stored to
 abbrev pub coarse : Copy → Type 0
 coarse none = Unit {0}
 coarse (regular s d) = Unit {0}
 coarse (normal s d) = Unit {0}
-coarse (tentative s d b t) = t ≡ isDirty s
+coarse (tentative s d b t) = t ≡ dirtyState s
 
 owns-above : (k : Copy) → ordered k → owns k ≡ true → exclusive k ≡ true
 owns-above none o h = h
@@ -200,14 +200,14 @@ coherent→agree {S} n C co =
 
     hold : (w p : ℕ) (k : Copy) → S .copy w p ≡ k → ordered k → agrees k (S .memory w) → coarse k → fine k (settled n S w)
     hold w p none e o a g = tt
-    hold w p (regular s d) e o a g = by (isDirty s) (λ h. wetly w p e h) (λ h. a h ∙ dryly w p e refl h)
-    hold w p (normal s d) e o a g = by (isDirty s) (λ h. wetly w p e h) (λ h. a h ∙ dryly w p e refl h)
+    hold w p (regular s d) e o a g = by (dirtyState s) (λ h. wetly w p e h) (λ h. a h ∙ dryly w p e refl h)
+    hold w p (normal s d) e o a g = by (dirtyState s) (λ h. wetly w p e h) (λ h. a h ∙ dryly w p e refl h)
     hold w p (tentative s d bare t) e o a g =
         ((λ h. a .0 (sym g ∙ h) ∙ dryly w p e refl refl), (λ h. sym g ∙ h), tt)
     hold w p (tentative s d (backup r v) t) e o a g = (
       (λ h. a .0 (sym g ∙ h) ∙ dryly w p e refl (below-clean r s (sym g ∙ h) o)),
       (λ h. sym g ∙ h),
-      (by (isDirty r) (λ h. wetly w p e h) (λ h. a .1 h ∙ dryly w p e refl h), o),
+      (by (dirtyState r) (λ h. wetly w p e h) (λ h. a .1 h ∙ dryly w p e refl h), o),
     )
 
 -- a machine with empty caches
@@ -227,7 +227,7 @@ bare-inv S z = record {
 -- plain memory's.
 pub serializable : (n : ℕ) {es : List Event} {S S′ : View} → Bare S → Run S es S′ → Within n S′
     → Serial es (unlogged (S .memory)) × Opaque es (unlogged (S .memory))
-    × ((w : ℕ) → settled n S′ w ≡ after es (unlogged (S .memory)) .val w) × Coherent n S′
+    × ((w : ℕ) → settled n S′ w ≡ afterEvents es (unlogged (S .memory)) .val w) × Coherent n S′
 serializable n {S = S} z r b =
     let t = serial (bare-inv S z) r in
     (t .0, t .1, settled-is n (t .2 .agree) b, agree→coherent n (t .2 .agree) b)

@@ -5,8 +5,8 @@ use mathlib.Core.Logic.{_≢_, inl}
 use mathlib.Core.Bool.{Bool, true, false}
 use Prim.Native.Nat.{ℕ, _<_}
 use native.Mathlib.Decide.{ℕ-discrete}
-use Rattle.theory.specs.View.{LineState, Back, bare, backup, Copy, none, regular, normal, tentative, wrote, rolledBack, committed, View}
-use Rattle.theory.specs.Change.{At, OnlyProcessor, same, Same}
+use Rattle.theory.specs.View.{LineState, Back, bare, backup, Copy, none, regular, normal, tentative, wrote, rolledCopy, committedCopy, View}
+use Rattle.theory.specs.Change.{OnlyWord, OnlyProcessor, same, Same}
 use Rattle.theory.proofs.Cache.{Slot, vacant, slotNormal, slotBackup, slotTentative, Line, blank, filled}
 use Rattle.theory.proofs.Cache.{mainOn, backOn, tentativeOn, slotCopy, Backs, look, Tidy, look-calm, tidy-shrink}
 use Rattle.theory.proofs.AllSlots.{slotRollback, slotCommit, tidy-committed, look-committed, tidy-rolled, look-rolled}
@@ -53,7 +53,7 @@ module _ (E : ℕ) (home : ℕ → ℕ) where
         → ((u : ℕ) → u ≢ w → view S′ .copy u p ≡ view S .copy u p)
         → ((q : ℕ) → S′ .active q ≡ S .active q)
         → ((q : ℕ) → S′ .status q ≡ S .status q)
-        → At p w (view S) (view S′)
+        → OnlyWord p w (view S) (view S′)
     at-local T′ w m c a s = record { memory-else = m; word-else = we; proc-else = λ q n. look-local T′ w q n; active-same = a; status-same = s }
       where
         we : (u : ℕ) → u ≢ w → (q : ℕ) → view S′ .copy u q ≡ view S .copy u q
@@ -76,7 +76,7 @@ module _ (E : ℕ) (home : ℕ → ℕ) where
     pub same-lines : S′ .line p ≡ S .line p
     same-lines = fun-ext (λ h. c .lines p h)
 
-    pub at-slot : AllTidy S′ → {x : Slot} → S .slot p i ≡ x → wordIs w x → wordIs w y → At p w (view S) (view S′)
+    pub at-slot : AllTidy S′ → {x : Slot} → S .slot p i ≡ x → wordIs w x → wordIs w y → OnlyWord p w (view S) (view S′)
     at-slot T′ {x} was xw yw = at-local T (slot-local c) T′ w (c .memories)
         (λ u n. rw same-lines
         (look-else E home (S .slot p) (S′ .slot p) (S .line p) (T p) w i l x y was (c .here) (c .else) xw yw (rw same-lines at (T′ p)) u n))
@@ -120,7 +120,7 @@ module _ (E : ℕ) (home : ℕ → ℕ) where
 
     -- the same, for a word that is named
     pub normal-gone : {s : LineState} {d : ℕ} → y ≡ vacant → S .slot p i ≡ slotNormal s w d
-        → AllTidy S′ × At p w (view S) (view S′) × (view S .copy w p ≡ normal s d) × (view S′ .copy w p ≡ none)
+        → AllTidy S′ × OnlyWord p w (view S) (view S′) × (view S .copy w p ≡ normal s d) × (view S′ .copy w p ≡ none)
     normal-gone {s} {d} ey was = (
       T′,
       at-slot T′ was refl (rw ey tt),
@@ -146,7 +146,7 @@ module _ (E : ℕ) (home : ℕ → ℕ) where
     pub turned : {x : Slot} → S .slot p i ≡ x → wordIs w x → wordIs w y → mainOn w x ≡ true → mainOn w y ≡ true
         → (tentativeOn w x ≡ true → tentativeOn w y ≡ true)
         → (b : Back) → Backs E home (S .slot p) (S .line p) w b
-        → AllTidy S′ × At p w (view S) (view S′) × (view S .copy w p ≡ slotCopy x b) × (view S′ .copy w p ≡ slotCopy y b)
+        → AllTidy S′ × OnlyWord p w (view S) (view S′) × (view S .copy w p ≡ slotCopy x b) × (view S′ .copy w p ≡ slotCopy y b)
     turned {x} was xw yw mx my tk b bk =
         let k = look-turn E home (S .slot p) (S′ .slot p) (S .line p) (T p) i l (c .else) w was (c .here) xw yw mx my tk b bk in
         (T′, at-slot T′ was xw yw, k .0, rw same-lines (k .1))
@@ -157,7 +157,7 @@ module _ (E : ℕ) (home : ℕ → ℕ) where
 
     -- a free slot takes a tentative entry
     pub entered : {s : LineState} {d : ℕ} {t : Bool} → S .slot p i ≡ vacant → y ≡ slotTentative s w d t → view S .copy w p ≡ none
-        → AllTidy S′ × At p w (view S) (view S′) × (view S′ .copy w p ≡ tentative s d bare t)
+        → AllTidy S′ × OnlyWord p w (view S) (view S′) × (view S′ .copy w p ≡ tentative s d bare t)
     entered was ey free = (
       T′,
       at-slot T′ was tt (rw ey refl),
@@ -173,7 +173,7 @@ module _ (E : ℕ) (home : ℕ → ℕ) where
     pub backs-up : {r s : LineState} {e d : ℕ} {t : Bool} → S .slot p i ≡ vacant → y ≡ slotBackup r w e → (i′ : ℕ) → i′ < E
         → S .slot p i′ ≡ slotTentative s w d t
         → ((j : ℕ) → j < E → backOn w (S .slot p j) ≡ false)
-        → AllTidy S′ × At p w (view S) (view S′) × (view S′ .copy w p ≡ tentative s d (backup r e) t)
+        → AllTidy S′ × OnlyWord p w (view S) (view S′) × (view S′ .copy w p ≡ tentative s d (backup r e) t)
     backs-up was ey i′ l′ main al = (
       T′,
       at-slot T′ was tt (rw ey refl),
@@ -214,7 +214,7 @@ module _ (E : ℕ) (home : ℕ → ℕ) where
   rolled-back {S} {S′} p T c a s = (
     T′,
     record {
-      cache = map-cache rolledBack T T′ c
+      cache = map-cache rolledCopy T T′ c
           (look-rolled E home (S .slot p) (S′ .slot p) (S .line p) (S′ .line p) (T p) (λ h. c .lines p h) (c .here));
       status = s;
       active = a;
@@ -224,9 +224,9 @@ module _ (E : ℕ) (home : ℕ → ℕ) where
       T′ : AllTidy S′
       T′ = tidy-local T (map-local c) (tidy-rolled E home (S .slot p) (S′ .slot p) (S .line p) (S′ .line p) (T p) (λ h. c .lines p h) (c .here))
 
-  pub slots-committed : {S S′ : State} (p : ℕ) → AllTidy S → SlotMap slotCommit p S S′ → AllTidy S′ × OnlyProcessor committed p (view S) (view S′)
+  pub slots-committed : {S S′ : State} (p : ℕ) → AllTidy S → SlotMap slotCommit p S S′ → AllTidy S′ × OnlyProcessor committedCopy p (view S) (view S′)
   slots-committed {S} {S′} p T c =
-      (T′, map-cache committed T T′ c (look-committed E home (S .slot p) (S′ .slot p) (S .line p) (S′ .line p) (T p) (λ h. c .lines p h) (c .here)))
+      (T′, map-cache committedCopy T T′ c (look-committed E home (S .slot p) (S′ .slot p) (S .line p) (S′ .line p) (T p) (λ h. c .lines p h) (c .here)))
     where
       T′ : AllTidy S′
       T′ = tidy-local T (map-local c) (tidy-committed E home (S .slot p) (S′ .slot p) (S .line p) (S′ .line p) (T p) (λ h. c .lines p h) (c .here))
@@ -263,7 +263,7 @@ module _ (E : ℕ) (home : ℕ → ℕ) where
 
     -- the line has w or nothing, before and after; no slot has w
     pub lined : {x : Line} → S .line p h ≡ x → lineIs w x → lineIs w y → ((i : ℕ) → i < E → mainOn w (S .slot p i) ≡ false)
-        → AllTidy S′ × At p w (view S) (view S′)
+        → AllTidy S′ × OnlyWord p w (view S) (view S′)
     lined {x} was xw yw o = (
       T′,
       at-local T line-local T′ w (c .memories)

@@ -9,7 +9,7 @@ abbrev pub Live : View → ℕ → Type 0
 Live S p = (S .active p ≡ true) × (S .status p ≡ true)
 
 -- nothing changes but word w in the memory and in p's cache
-pub record At (p w : ℕ) (S S′ : View) : Type 0 where
+pub record OnlyWord (p w : ℕ) (S S′ : View) : Type 0 where
   pub memory-else : (u : ℕ) → u ≢ w → S′ .memory u ≡ S .memory u
   pub word-else : (u : ℕ) → u ≢ w → (q : ℕ) → S′ .copy u q ≡ S .copy u q
   pub proc-else : (q : ℕ) → q ≢ p → S′ .copy w q ≡ S .copy w q

@@ -25,9 +25,9 @@ next (release p w) P = withLog P p (forget w (P .log p))
 next (commit p) P = record { val = replay (P .log p) (P .val); log = put (P .log) p [] }
 next (drop p) P = withLog P p []
 
-abbrev pub after : List Event → Plain → Plain
-after [] P = P
-after (e ∷ es) P = after es (next e P)
+abbrev pub afterEvents : List Event → Plain → Plain
+afterEvents [] P = P
+afterEvents (e ∷ es) P = afterEvents es (next e P)
 
 -- A holds of each event and the plain machine that it meets
 abbrev pub Along : (Event → Plain → Type 0) → List Event → Plain → Type 0
@@ -35,17 +35,17 @@ Along A [] P = Unit {0}
 Along A (e ∷ es) P = A e P × Along A es (next e P)
 
 -- a plain load reads the memory; a transaction that commits reads, replayed on the memory at its commit, what it was answered
-abbrev pub Agrees : Event → Plain → Type 0
-Agrees (load p w x) P = P .val w ≡ x
-Agrees (store p w v) P = Unit {0}
-Agrees (tread p w x) P = Unit {0}
-Agrees (twrite p w v) P = Unit {0}
-Agrees (release p w) P = Unit {0}
-Agrees (commit p) P = Replays (P .log p) (P .val)
-Agrees (drop p) P = Unit {0}
+abbrev pub Explains : Event → Plain → Type 0
+Explains (load p w x) P = P .val w ≡ x
+Explains (store p w v) P = Unit {0}
+Explains (tread p w x) P = Unit {0}
+Explains (twrite p w v) P = Unit {0}
+Explains (release p w) P = Unit {0}
+Explains (commit p) P = Replays (P .log p) (P .val)
+Explains (drop p) P = Unit {0}
 
 abbrev pub Serial : List Event → Plain → Type 0
-Serial es P = Along Agrees es P
+Serial es P = Along Explains es P
 
 -- Opacity: at each read a transaction, whatever becomes of it, has read what its log replays on the memory of that moment, this read too
 abbrev pub Sees : Event → Plain → Type 0

@@ -5,26 +5,26 @@ use mathlib.Core.Bool.{Bool, true, false}
 use mathlib.Core.List.{List, [], _∷_}
 use Prim.Native.Nat.{ℕ, zero, suc}
 use Rattle.theory.specs.View.{LineState, valid, reserved, dirty, Back, bare, backup, Copy, none, regular, normal}
-use Rattle.theory.specs.View.{tentative, above, isDirty, wrote, dried, isTentative, rolledBack, committed, View}
+use Rattle.theory.specs.View.{tentative, above, dirtyState, wrote, dried, isTentative, rolledCopy, committedCopy, View}
 use Rattle.theory.specs.Event.{Event, load, store, tread, twrite, commit, drop}
-use Rattle.theory.specs.Change.{At, OnlyProcessor, same, Same}
+use Rattle.theory.specs.Change.{OnlyWord, OnlyProcessor, same, Same}
 
 -- a line or an entry of p is freed: it was empty, or what it held is written back if DIRTY
 pub data Freed (p : ℕ) (S S′ : View) : Type 0 where
   empty : Same S S′ → Freed p S S′
-  regular-freed : (u : ℕ) {s : LineState} {d : ℕ} → At p u S S′ → S .copy u p ≡ regular s d → S′ .copy u p ≡ none
+  regular-freed : (u : ℕ) {s : LineState} {d : ℕ} → OnlyWord p u S S′ → S .copy u p ≡ regular s d → S′ .copy u p ≡ none
       → S′ .memory u ≡ wrote s d (S .memory u)
       → Freed p S S′
-  normal-freed : (u : ℕ) {s : LineState} {d : ℕ} → At p u S S′ → S .copy u p ≡ normal s d → S′ .copy u p ≡ none
+  normal-freed : (u : ℕ) {s : LineState} {d : ℕ} → OnlyWord p u S S′ → S .copy u p ≡ normal s d → S′ .copy u p ≡ none
       → S′ .memory u ≡ wrote s d (S .memory u)
       → Freed p S S′
-  backup-freed : (u : ℕ) {s r : LineState} {d e : ℕ} {t : Bool} → At p u S S′ → S .copy u p ≡ tentative s d (backup r e) t
+  backup-freed : (u : ℕ) {s r : LineState} {d e : ℕ} {t : Bool} → OnlyWord p u S S′ → S .copy u p ≡ tentative s d (backup r e) t
       → S′ .copy u p ≡ tentative s d bare t
       → S′ .memory u ≡ wrote r e (S .memory u) → Freed p S S′
 
 -- rollback of p
 pub record RolledBack (p : ℕ) (S S′ : View) : Type 0 where
-  pub cache : OnlyProcessor rolledBack p S S′
+  pub cache : OnlyProcessor rolledCopy p S S′
   pub status : S′ .status p ≡ false
   pub active : S′ .active p ≡ S .active p
 
@@ -41,7 +41,7 @@ pub data RollIf (so : Copy → Bool) (p w q : ℕ) (S S′ : View) : Type 0 wher
 -- another processor's copy of w, and the memory, after a request
 pub data Snooped (f : Copy → Copy) (g : Copy → ℕ → ℕ) (p w q : ℕ) (S S′ : View) : Type 0 where
   own : q ≡ p → Same S S′ → Snooped f g p w q S S′
-  other : q ≢ p → At q w S S′ → S′ .copy w q ≡ f (S .copy w q) → S′ .memory w ≡ g (S .copy w q) (S .memory w) → Snooped f g p w q S S′
+  other : q ≢ p → OnlyWord q w S S′ → S′ .copy w q ≡ f (S .copy w q) → S′ .memory w ≡ g (S .copy w q) (S .memory w) → Snooped f g p w q S S′
 
 -- held tentatively RESERVED or DIRTY
 abbrev pub tentativeAbove : Copy → Bool
@@ -57,29 +57,29 @@ supplied (regular s d) m = wrote s d m
 supplied (normal s d) m = wrote s d m
 supplied (tentative s d b t) m = wrote s d m
 
-abbrev pub shared : Copy → Copy
-shared none = none
-shared (regular s d) = regular valid d
-shared (normal s d) = normal valid d
-shared (tentative s d b t) = tentative valid d b t
+abbrev pub sharedCopy : Copy → Copy
+sharedCopy none = none
+sharedCopy (regular s d) = regular valid d
+sharedCopy (normal s d) = normal valid d
+sharedCopy (tentative s d b t) = tentative valid d b t
 
-abbrev pub taken : Copy → Copy
-taken none = none
-taken (regular s d) = none
-taken (normal s d) = none
-taken (tentative s d b t) = none
+abbrev pub takenCopy : Copy → Copy
+takenCopy none = none
+takenCopy (regular s d) = none
+takenCopy (normal s d) = none
+takenCopy (tentative s d b t) = none
 
 pub data Kind : Type 0 where
   reading owning : Kind
 
--- what refuses T_READ, or is rolled back by READ; and what refuses T_RFO, or is rolled back by RFO and WRITE
-abbrev pub refuses : Kind → Copy → Bool
-refuses reading k = tentativeAbove k
-refuses owning k = isTentative k
+-- what opposing T_READ, or is rolled back by READ; and what opposing T_RFO, or is rolled back by RFO and WRITE
+abbrev pub opposing : Kind → Copy → Bool
+opposing reading k = tentativeAbove k
+opposing owning k = isTentative k
 
 abbrev pub snoops : Kind → Copy → Copy
-snoops reading k = shared k
-snoops owning k = taken k
+snoops reading k = sharedCopy k
+snoops owning k = takenCopy k
 
 abbrev pub granted : Kind → LineState
 granted reading = valid
@@ -88,12 +88,12 @@ granted owning = reserved
 -- READ, RFO, WRITE: roll back first
 pub record Plainly (k : Kind) (n p w : ℕ) (S S′ : View) : Type 0 where
   pub mid : View
-  pub rolls : Each (RollIf (refuses k) p w) n S mid
+  pub rolls : Each (RollIf (opposing k) p w) n S mid
   pub asks : Each (Snooped (snoops k) supplied p w) n mid S′
 
--- T_READ, T_RFO: nobody refuses
+-- T_READ, T_RFO: nobody opposing
 pub record Granted (k : Kind) (n p w : ℕ) (S S′ : View) : Type 0 where
-  pub nobody : (q : ℕ) → q ≢ p → refuses k (S .copy w q) ≡ false
+  pub nobody : (q : ℕ) → q ≢ p → opposing k (S .copy w q) ≡ false
   pub asks : Each (Snooped (snoops k) supplied p w) n S S′
 
 -- LOAD's miss
@@ -102,7 +102,7 @@ pub record Fetched (n p w x : ℕ) (S S′ : View) : Type 0 where
   pub bus : View
   pub frees : Freed p S gap
   pub asks : Plainly reading n p w gap bus
-  pub at : At p w bus S′
+  pub at : OnlyWord p w bus S′
   pub gives : bus .memory w ≡ x
   pub here : S′ .copy w p ≡ regular valid x
   pub memory-same : S′ .memory w ≡ bus .memory w
@@ -133,7 +133,7 @@ isRegular (tentative s d b t) = false
 
 pub data Unnormal (p w : ℕ) (S S′ : View) : Type 0 where
   none-normal : isNormal (S .copy w p) ≡ false → Same S S′ → Unnormal p w S S′
-  was-normal : {s : LineState} {d : ℕ} → At p w S S′ → S .copy w p ≡ normal s d → S′ .copy w p ≡ none → S′ .memory w ≡ wrote s d (S .memory w)
+  was-normal : {s : LineState} {d : ℕ} → OnlyWord p w S S′ → S .copy w p ≡ normal s d → S′ .copy w p ≡ none → S′ .memory w ≡ wrote s d (S .memory w)
       → Unnormal p w S S′
 
 -- LT, LTX, ST first make p active, and then give up its regular copy
@@ -144,14 +144,14 @@ pub record Woken (p : ℕ) (S S′ : View) : Type 0 where
 
 pub data Unregular (p w : ℕ) (S S′ : View) : Type 0 where
   none-regular : isRegular (S .copy w p) ≡ false → Same S S′ → Unregular p w S S′
-  was-regular : {s : LineState} {d : ℕ} → At p w S S′ → S .copy w p ≡ regular s d → S′ .copy w p ≡ none → S′ .memory w ≡ wrote s d (S .memory w)
+  was-regular : {s : LineState} {d : ℕ} → OnlyWord p w S S′ → S .copy w p ≡ regular s d → S′ .copy w p ≡ none → S′ .memory w ≡ wrote s d (S .memory w)
       → Unregular p w S S′
 
 -- p's NORMAL copy becomes tentative, with a backup or without
 pub data Begun (p w : ℕ) (S S′ : View) : Type 0 where
-  with-backup : {s : LineState} {d : ℕ} {t : Bool} {S₁ : View} → Freed p S S₁ → S₁ .copy w p ≡ normal s d → At p w S₁ S′
-      → S′ .copy w p ≡ tentative s d (backup s d) t → (t ≡ true → isDirty s ≡ true) → S′ .memory w ≡ S₁ .memory w → Begun p w S S′
-  without : {s : LineState} {d : ℕ} → At p w S S′ → S .copy w p ≡ normal s d
+  with-backup : {s : LineState} {d : ℕ} {t : Bool} {S₁ : View} → Freed p S S₁ → S₁ .copy w p ≡ normal s d → OnlyWord p w S₁ S′
+      → S′ .copy w p ≡ tentative s d (backup s d) t → (t ≡ true → dirtyState s ≡ true) → S′ .memory w ≡ S₁ .memory w → Begun p w S S′
+  without : {s : LineState} {d : ℕ} → OnlyWord p w S S′ → S .copy w p ≡ normal s d
       → S′ .copy w p ≡ tentative (dried s) d bare false → S′ .memory w ≡ wrote s d (S .memory w) → Begun p w S S′
 
 abbrev pub enough : Kind → LineState → Bool
@@ -159,17 +159,17 @@ enough reading s = true
 enough owning s = above s
 
 -- p comes to hold w tentatively, and alone if that is asked
-pub data Held (k : Kind) (n p w : ℕ) (S S′ : View) : Type 0 where
-  has-it : {s : LineState} {d : ℕ} {b : Back} {t : Bool} → S .copy w p ≡ tentative s d b t → enough k s ≡ true → Same S S′ → Held k n p w S S′
+pub data Obtained (k : Kind) (n p w : ℕ) (S S′ : View) : Type 0 where
+  has-it : {s : LineState} {d : ℕ} {b : Back} {t : Bool} → S .copy w p ≡ tentative s d b t → enough k s ≡ true → Same S S′ → Obtained k n p w S S′
   raises : {d : ℕ} {b : Back} {t : Bool} {S₁ : View} → S .copy w p ≡ tentative valid d b t → Granted owning n p w S S₁
-      → At p w S₁ S′ → S′ .copy w p ≡ tentative reserved d b t → S′ .memory w ≡ S₁ .memory w → Held k n p w S S′
+      → OnlyWord p w S₁ S′ → S′ .copy w p ≡ tentative reserved d b t → S′ .memory w ≡ S₁ .memory w → Obtained k n p w S S′
   misses : {b : Back} {S₁ S₂ S₃ : View} → S .copy w p ≡ none → Freed p S S₁ → Freed p S₁ S₂ → Granted k n p w S₂ S₃
-      → At p w S₃ S′ → (b ≡ bare) ⊎ (b ≡ backup (granted k) (S₃ .memory w)) → S′ .copy w p ≡ tentative (granted k) (S₃ .memory w) b false
-      → S′ .memory w ≡ S₃ .memory w → Held k n p w S S′
+      → OnlyWord p w S₃ S′ → (b ≡ bare) ⊎ (b ≡ backup (granted k) (S₃ .memory w)) → S′ .copy w p ≡ tentative (granted k) (S₃ .memory w) b false
+      → S′ .memory w ≡ S₃ .memory w → Obtained k n p w S S′
 
--- or there is no room, or another processor refuses: then p is rolled back
+-- or there is no room, or another processor opposing: then p is rolled back
 pub data Busy (k : Kind) (p w : ℕ) (S : View) : Type 0 where
-  busy : (q : ℕ) → q ≢ p → refuses k (S .copy w q) ≡ true → Busy k p w S
+  busy : (q : ℕ) → q ≢ p → opposing k (S .copy w q) ≡ true → Busy k p w S
 
 pub data Denied (k : Kind) (p w : ℕ) (S S′ : View) : Type 0 where
   no-room : S .copy w p ≡ none → RolledBack p S S′ → Denied k p w S S′
@@ -204,21 +204,21 @@ pub data Step (n : ℕ) (S S′ : View) : List Event → Type 0 where
   load-bare : {p w x : ℕ} {s : LineState} {d : ℕ} {t : Bool} {S₁ : View} → S .copy w p ≡ tentative s d bare t → above s ≡ true
       → RolledBack p S S₁ → Fetched n p w x S₁ S′ → Step n S S′ (load p w x ∷ [])
   store-hit : {p w v : ℕ} {s : LineState} {d : ℕ} {S₁ S₂ : View} → Unheld p w S S₁ → Unnormal p w S₁ S₂ → S₂ .copy w p ≡ regular s d
-      → above s ≡ true → At p w S₂ S′ → S′ .copy w p ≡ regular dirty v → S′ .memory w ≡ S₂ .memory w → Step n S S′ (store p w v ∷ [])
+      → above s ≡ true → OnlyWord p w S₂ S′ → S′ .copy w p ≡ regular dirty v → S′ .memory w ≡ S₂ .memory w → Step n S S′ (store p w v ∷ [])
   store-through : {p w v d : ℕ} {S₁ S₂ S₃ : View} → Unheld p w S S₁ → Unnormal p w S₁ S₂ → S₂ .copy w p ≡ regular valid d
-      → Plainly owning n p w S₂ S₃ → At p w S₃ S′ → S′ .copy w p ≡ regular reserved v → S′ .memory w ≡ v → Step n S S′ (store p w v ∷ [])
+      → Plainly owning n p w S₂ S₃ → OnlyWord p w S₃ S′ → S′ .copy w p ≡ regular reserved v → S′ .memory w ≡ v → Step n S S′ (store p w v ∷ [])
   store-miss : {p w v : ℕ} {S₁ S₂ S₃ S₄ : View} → Unheld p w S S₁ → Unnormal p w S₁ S₂ → S₂ .copy w p ≡ none → Freed p S₂ S₃
-      → Plainly owning n p w S₃ S₄ → At p w S₄ S′ → S′ .copy w p ≡ regular dirty v → S′ .memory w ≡ S₄ .memory w
+      → Plainly owning n p w S₃ S₄ → OnlyWord p w S₄ S′ → S′ .copy w p ≡ regular dirty v → S′ .memory w ≡ S₄ .memory w
       → Step n S S′ (store p w v ∷ [])
   -- LT and LTX; ST; what all three do when refused, when there is no room, and with TSTATUS false
-  gets : {p w x : ℕ} {s : LineState} {b : Back} {t : Bool} {S₁ : View} (k : Kind) → Opened p w S S₁ → Held k n p w S₁ S′
+  gets : {p w x : ℕ} {s : LineState} {b : Back} {t : Bool} {S₁ : View} (k : Kind) → Opened p w S S₁ → Obtained k n p w S₁ S′
       → S′ .copy w p ≡ tentative s x b t → Step n S S′ (tread p w x ∷ [])
-  puts : {p w v : ℕ} {s : LineState} {d : ℕ} {b : Back} {t : Bool} {S₁ S₂ : View} → Opened p w S S₁ → Held owning n p w S₁ S₂
-      → S₂ .copy w p ≡ tentative s d b t → At p w S₂ S′ → S′ .copy w p ≡ tentative dirty v b true → S′ .memory w ≡ S₂ .memory w
+  puts : {p w v : ℕ} {s : LineState} {d : ℕ} {b : Back} {t : Bool} {S₁ S₂ : View} → Opened p w S S₁ → Obtained owning n p w S₁ S₂
+      → S₂ .copy w p ≡ tentative s d b t → OnlyWord p w S₂ S′ → S′ .copy w p ≡ tentative dirty v b true → S′ .memory w ≡ S₂ .memory w
       → Step n S S′ (twrite p w v ∷ [])
   fails : {p w : ℕ} {S₁ : View} (k : Kind) → Opened p w S S₁ → Denied k p w S₁ S′ → Step n S S′ (drop p ∷ [])
   dead : {p : ℕ} → S .status p ≡ false → Woken p S S′ → Step n S S′ (drop p ∷ [])
-  commit-yes : {p : ℕ} → S .status p ≡ true → OnlyProcessor committed p S S′ → S′ .active p ≡ false → S′ .status p ≡ true
+  commit-yes : {p : ℕ} → S .status p ≡ true → OnlyProcessor committedCopy p S S′ → S′ .active p ≡ false → S′ .status p ≡ true
       → Step n S S′ (commit p ∷ [])
   -- COMMIT and VALIDATE with TSTATUS false
   over : {p : ℕ} → S .status p ≡ false → Ended p S S′ → Step n S S′ (drop p ∷ [])

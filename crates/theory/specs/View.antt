@@ -24,16 +24,16 @@ above valid = false
 above reserved = true
 above dirty = true
 
-abbrev pub isDirty : LineState → Bool
-isDirty valid = false
-isDirty reserved = false
-isDirty dirty = true
+abbrev pub dirtyState : LineState → Bool
+dirtyState valid = false
+dirtyState reserved = false
+dirtyState dirty = true
 
 -- a backup's state r is not above the tentative copy's state s
 abbrev pub below : LineState → LineState → Type 0
 below valid s = Unit {0}
 below reserved s = above s ≡ true
-below dirty s = isDirty s ≡ true
+below dirty s = dirtyState s ≡ true
 
 abbrev pub isTentative : Copy → Bool
 isTentative none = false
@@ -74,12 +74,12 @@ exclusive (tentative s d b f) = above s
 -- this copy holds a settled value that the memory may lack
 abbrev pub backDirty : Back → Bool
 backDirty bare = false
-backDirty (backup r e) = isDirty r
+backDirty (backup r e) = dirtyState r
 
 abbrev pub owns : Copy → Bool
 owns none = false
-owns (regular s d) = isDirty s
-owns (normal s d) = isDirty s
+owns (regular s d) = dirtyState s
+owns (normal s d) = dirtyState s
 owns (tentative s d b f) = backDirty b
 
 -- what a copy must be when the word's settled value is x: all but a tentative copy that was stored to hold it
@@ -91,7 +91,7 @@ abbrev pub fine : Copy → ℕ → Type 0
 fine none x = Unit {0}
 fine (regular s d) x = d ≡ x
 fine (normal s d) x = d ≡ x
-fine (tentative s d b f) x = (f ≡ false → d ≡ x) × (f ≡ true → isDirty s ≡ true) × fineBack b s x
+fine (tentative s d b f) x = (f ≡ false → d ≡ x) × (f ≡ true → dirtyState s ≡ true) × fineBack b s x
 
 -- the value that the processor itself sees inside its transaction
 abbrev pub ownValue : Copy → ℕ → ℕ
@@ -104,17 +104,17 @@ abbrev pub backRolled : Back → Copy
 backRolled bare = none
 backRolled (backup r e) = normal r e
 
-abbrev pub rolledBack : Copy → Copy
-rolledBack none = none
-rolledBack (regular s d) = regular s d
-rolledBack (normal s d) = normal s d
-rolledBack (tentative s d b f) = backRolled b
+abbrev pub rolledCopy : Copy → Copy
+rolledCopy none = none
+rolledCopy (regular s d) = regular s d
+rolledCopy (normal s d) = normal s d
+rolledCopy (tentative s d b f) = backRolled b
 
-abbrev pub committed : Copy → Copy
-committed none = none
-committed (regular s d) = regular s d
-committed (normal s d) = normal s d
-committed (tentative s d b f) = normal s d
+abbrev pub committedCopy : Copy → Copy
+committedCopy none = none
+committedCopy (regular s d) = regular s d
+committedCopy (normal s d) = normal s d
+committedCopy (tentative s d b f) = normal s d
 
 -- one word: its memory cell m, its copies c by processor, its settled value x
 pub record Word (m : ℕ) (c : ℕ → Copy) (x : ℕ) : Type 0 where

@@ -1,5 +1,5 @@
 use mathlib.Core.Path.{ap}
-use Rattle.listing.specs.Replay.{left, nextPiece}
+use Rattle.listing.specs.Replay.{pieceLeft, nextPiece}
 use borrow.Author.Needs.{needs}
 use Rattle.listing.proofs.next_piece.Statement.{statement}
 use Rattle.listing.proofs.next_piece.Tie as tie
@@ -12,7 +12,7 @@ same-length c = search needs
 
 returns : tie.Need-returns
 unfolding nextPiece
-returns c = ap (left _) (c .before .before .before .fill .ensures)
+returns c = ap (pieceLeft _) (c .before .before .before .fill .ensures)
 
 pub next-piece-spec : {M : Type 1} → statement M
 next-piece-spec = tie.close (tie.spec fill-requires same-length returns)

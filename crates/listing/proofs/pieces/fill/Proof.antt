@@ -2,7 +2,7 @@ use mathlib.Core.Path.{_≡_, refl, _∙_}
 use borrow.Author.Tests.{leb-true}
 use lib.ListN.{length}
 use Rattle.rules.specs.State.{caches}
-use Rattle.listing.specs.Pieces.{carried}
+use Rattle.listing.specs.Pieces.{filling}
 use Rattle.listing.specs.Listing.{going, linesLeft, fillOf}
 use Rattle.listing.proofs.Doing.{no-room, some-room, fillFrom, fill-starts, ended-lines, ended-room, went-on, less}
 use borrow.Author.Needs.{needs}
@@ -12,7 +12,7 @@ use Rattle.listing.proofs.pieces.fill.Tie as tie
 abbrev Inv-loop : tie.InvT-loop
 Inv-loop s out₀ memory₀ lines₀ entries₀ flags₀ d room x₀ used₀ out memory lines entries flags x used =
     (length out ≡ length out₀) ×
-    (fillFrom s d (carried (going x (caches memory lines entries flags)) used out) ≡
+    (fillFrom s d (filling (going x (caches memory lines entries flags)) used out) ≡
     fillOf s d (going x₀ (caches memory₀ lines₀ entries₀ flags₀)) out₀)
 
 abbrev μ-loop : tie.MeasureT-loop

@@ -1,5 +1,5 @@
 use mathlib.Core.Path.{_∙_, sym}
-use Rattle.text.specs.Names.{stepOf}
+use Rattle.text.specs.Names.{namedStep}
 use borrow.Author.Needs.{needs}
 use Rattle.text.proofs.names.step_of.Statement.{statement}
 use Rattle.text.proofs.names.step_of.Tie as tie
@@ -11,7 +11,7 @@ text-is-requires : tie.Need-text-is-requires
 text-is-requires c κs = search needs
 
 returns : tie.Need-returns
-unfolding stepOf
+unfolding namedStep
 returns c = rw (sym (c .before .text-is .ensures) ∙ c .if1 .taken)
 
 slice-aggregate-text-is-2 : tie.Need-slice-aggregate-text-is-2
@@ -21,7 +21,7 @@ text-is-requires-2 : tie.Need-text-is-requires-2
 text-is-requires-2 c κs = search needs
 
 returns-2 : tie.Need-returns-2
-unfolding stepOf
+unfolding namedStep
 returns-2 c =
     rw (
       sym (c .before .before .before .before .text-is .ensures) ∙ c .before .before .before .if1 .left,
@@ -35,7 +35,7 @@ text-is-requires-3 : tie.Need-text-is-requires-3
 text-is-requires-3 c κs = search needs
 
 returns-3 : tie.Need-returns-3
-unfolding stepOf
+unfolding namedStep
 returns-3 c =
     let c1 = c .before .before .before in
     let c2 = c1 .before .before .before in
@@ -52,7 +52,7 @@ text-is-requires-4 : tie.Need-text-is-requires-4
 text-is-requires-4 c κs = search needs
 
 returns-4 : tie.Need-returns-4
-unfolding stepOf
+unfolding namedStep
 returns-4 c =
     let c1 = c .before .before .before in
     let c2 = c1 .before .before .before in
@@ -71,7 +71,7 @@ text-is-requires-5 : tie.Need-text-is-requires-5
 text-is-requires-5 c κs = search needs
 
 returns-5 : tie.Need-returns-5
-unfolding stepOf
+unfolding namedStep
 returns-5 c =
     let c1 = c .before .before .before in
     let c2 = c1 .before .before .before in
@@ -89,7 +89,7 @@ other-step-of-requires : tie.Need-other-step-of-requires
 other-step-of-requires c κs = search needs
 
 returns-6 : tie.Need-returns-6
-unfolding stepOf
+unfolding namedStep
 returns-6 c =
     let c1 = c .before .before .before .before in
     let c2 = c1 .before .before .before in
