@@ -1,7 +1,7 @@
 -- What happens to one copy of a word.
 use mathlib.Core.Bool.{Bool}
 use Prim.Native.Nat.{ℕ}
-use lib.Dec.{eqb}
+use lib.Dec.{eqb, leb}
 use Rattle.laws.specs.Choice.{pick, both, either}
 use Rattle.entry.specs.declared.Entry.{Entry}
 use Rattle.entry.specs.Numbers.{VALID, RESERVED, DIRTY, NORMAL, BACKUP, TENTATIVE, READ, RFO, WRITE, T-READ, T-RFO}
@@ -25,9 +25,13 @@ rolledBack e = pick (eqb (e .tag) TENTATIVE) noEntry (pick (eqb (e .tag) BACKUP)
 abbrev pub committed : Entry → Entry
 committed e = pick (eqb (e .tag) BACKUP) noEntry (pick (eqb (e .tag) TENTATIVE) (withTag e NORMAL) e)
 
+-- "RESERVED or DIRTY", the states above VALID
+abbrev pub reservedOrDirty : ℕ → Bool
+reservedOrDirty state = leb RESERVED state
+
 -- "RESERVED and DIRTY become VALID"
 abbrev pub shared : Entry → Entry
-shared e = pick (either (eqb (e .state) RESERVED) (eqb (e .state) DIRTY)) (withState e VALID) e
+shared e = pick (reservedOrDirty (e .state)) (withState e VALID) e
 
 -- an entry with the tag and the word
 abbrev pub isEntry : Entry → ℕ → ℕ → Bool

@@ -1,4 +1,6 @@
 pub mod Numbers
+pub mod Refusals
+pub mod Step
 pub mod Packing
 pub mod Entry
 pub mod Answer

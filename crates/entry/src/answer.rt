@@ -1,8 +1,14 @@
 // What a step tells: an answer and six cycle counts.
 
+use crate::numbers::READ;
+use crate::numbers::RFO;
+use crate::numbers::T_READ;
+use crate::numbers::T_RFO;
+use crate::numbers::WRITE;
 ghost use mathlib.Core.Path.{_≡_};
-ghost use Rattle.entry.specs.Answer.{answerNumber, answerValue, refusalNumber, cyclesOf, refusedBy};
+ghost use Rattle.entry.specs.Answer.{answerNumber, answerValue, refusalNumber, quiet, asked, cyclesOf, refusedBy};
 ghost use Prim.Native.Nat.{_+_};
+ghost use Rattle.laws.specs.Choice.{pick};
 
 pub enum Answer {
     Value(u32),
@@ -78,27 +84,66 @@ impl Answer {
     }
 }
 
+fn more_if(yes: bool, n: u16) -> u32
+    ensures { λ r. ⌜ r ≡ pick yes (n + 1) n ⌝ }
+{
+    let whole = n as u32;
+    if yes {
+        return whole + 1;
+    }
+    whole
+}
+
+fn one_if(yes: bool) -> u32
+    ensures { λ r. ⌜ r ≡ pick yes 1 0 ⌝ }
+{
+    if yes {
+        return 1;
+    }
+    0
+}
+
 impl Answered {
     // A refusal gives its number, and zero counts.
     pub fn refused(number: u8) -> Answered
         ensures { λ r. ⌜ r ≡ refusedBy number ⌝ }
     {
-        let none = Counts {
-            read: 0,
-            rfo: 0,
-            write: 0,
-            t_read: 0,
-            t_rfo: 0,
-            busy: 0,
-        };
         Answered {
             answer: Answer::Refused(number),
-            counts: none,
+            counts: Counts::quiet(0),
         }
     }
 }
 
 impl Counts {
+    // w copies written back, each a WRITE, and no request.
+    pub fn quiet(w: u16) -> Counts
+        ensures { λ r. ⌜ r ≡ quiet w ⌝ }
+    {
+        Counts {
+            read: 0,
+            rfo: 0,
+            write: w as u32,
+            t_read: 0,
+            t_rfo: 0,
+            busy: 0,
+        }
+    }
+
+    // w copies written back, one request, and how many BUSY it met.
+    pub fn asked(cycle: u8, w: u16, busy: u32) -> Counts
+        ensures { λ r. ⌜ r ≡ asked cycle w busy ⌝ }
+    {
+        Counts {
+            read: one_if(cycle == READ),
+            rfo: one_if(cycle == RFO),
+            write: more_if(cycle == WRITE, w),
+            t_read: one_if(cycle == T_READ),
+            t_rfo: one_if(cycle == T_RFO),
+            busy: busy,
+        }
+    }
+
     // The sum of the six counts.
     pub fn cycles(self) -> u64
         ensures { λ r. ⌜ r ≡ cyclesOf self ⌝ }

@@ -3,6 +3,8 @@
 pub mod answer;
 pub mod numbers;
 pub mod packed;
+pub mod refusals;
+pub mod step;
 
 use crate::numbers::DIRTY;
 use crate::numbers::INVALID;
@@ -109,9 +111,8 @@ impl Entry {
     {
         let state = self.state;
         match state {
-            RESERVED => self.with_state(VALID),
-            DIRTY => self.with_state(VALID),
-            INVALID..=VALID | 4..=255 => self,
+            INVALID..=VALID => self,
+            RESERVED..=255 => self.with_state(VALID),
         }
     }
 }

@@ -6,7 +6,7 @@ use Rattle.rules.specs.declared.Dims.{Dims}
 use Rattle.rules.specs.declared.Machine.{Machine}
 use Rattle.rules.specs.declared.Ran.{Ran}
 use Rattle.rules.specs.State.{Caches, cachesOf, machineOf}
-use Rattle.rules.specs.Refusals.{notSound, badColumns}
+use Rattle.entry.specs.Refusals.{notSound, badColumns}
 use Rattle.rules.specs.SoundTest.{soundOf}
 use Rattle.rules.specs.Run.{Steps, Columns, Left, left, columnsOk, runSound, runOf}
 use Rattle.runs.specs.Halting.{leftBy}

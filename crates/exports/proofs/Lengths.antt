@@ -9,7 +9,7 @@ use Rattle.laws.specs.Choice.{both}
 use Rattle.entry.specs.declared.answer.Answer.the-variants.{Refused}
 use Rattle.rules.specs.declared.Dims.{Dims}
 use Rattle.rules.specs.State.{Caches, machineOf}
-use Rattle.rules.specs.Refusals.{notSound}
+use Rattle.entry.specs.Refusals.{notSound}
 use Rattle.rules.specs.Sound.{Lengths}
 use Rattle.rules.specs.SoundTest.{lengthsOk, soundOf}
 use Rattle.rules.specs.Step.{settledOf}

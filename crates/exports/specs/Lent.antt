@@ -7,7 +7,7 @@ use Rattle.entry.specs.declared.answer.Answer.{Answer}
 use Rattle.entry.specs.Answer.{answerValue, refusalNumber}
 use Rattle.rules.specs.declared.Dims.{Dims}
 use Rattle.rules.specs.State.{Caches, cachesOf, machineOf}
-use Rattle.rules.specs.Refusals.{accepted, notSound}
+use Rattle.entry.specs.Refusals.{accepted, notSound}
 use Rattle.rules.specs.SoundTest.{lengthsOk}
 use Rattle.rules.specs.Making.{makeOf}
 use Rattle.rules.specs.Step.{settledOf}

@@ -9,7 +9,7 @@ use lib.Dec.{leb}
 use lib.ListN.{length, take, replicate, length-replicate}
 use Rattle.rules.specs.declared.Dims.{Dims}
 use Rattle.rules.specs.declared.Made.{Made}
-use Rattle.rules.specs.Refusals.{accepted}
+use Rattle.entry.specs.Refusals.{accepted}
 use Rattle.rules.specs.Making.{dimsRefusal, makeRefusal, makeOf}
 use Rattle.machine.proofs.Words.{dims-fit}
 use Rattle.listing.specs.declared.places.Place.{Place}

@@ -9,7 +9,7 @@ use Rattle.laws.specs.Choice.{pick}
 use Rattle.entry.specs.Numbers.{INTERRUPT}
 use Rattle.rules.specs.declared.Dims.{Dims}
 use Rattle.rules.specs.State.{Caches}
-use Rattle.rules.specs.Refusals.{accepted, noSuchStep}
+use Rattle.entry.specs.Refusals.{accepted, noSuchStep}
 use Rattle.rules.specs.Making.{dimsRefusal}
 use Rattle.rules.specs.Step.{stepRefusal, takeStep}
 use Rattle.machine.proofs.Words.{dims-fit, low-word}

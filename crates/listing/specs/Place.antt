@@ -5,7 +5,7 @@ use Prim.Native.Nat.{ℕ, _+_}
 use lib.Dec.{eqb, ltb, leb}
 use lib.ListN.{length}
 use Rattle.laws.specs.Choice.{pick}
-use Rattle.rules.specs.Refusals.{accepted}
+use Rattle.entry.specs.Refusals.{accepted}
 use Rattle.text.specs.Quoted.{bytes}
 use Rattle.text.specs.Names.{sameText}
 use Rattle.text.specs.Records.{recordEnd}

@@ -11,7 +11,7 @@ use Rattle.entry.specs.Numbers.{INTERRUPT}
 use Rattle.entry.specs.Answer.{cyclesOf, refusedBy}
 use Rattle.rules.specs.declared.Dims.{Dims}
 use Rattle.rules.specs.State.{Caches, Outcome, outcome}
-use Rattle.rules.specs.Refusals.{accepted, noSuchStep}
+use Rattle.entry.specs.Refusals.{accepted, noSuchStep}
 use Rattle.rules.specs.Step.{stepRefusal, takeStep}
 use Rattle.text.specs.declared.records.Record.{Record}
 use Rattle.text.specs.declared.records.Record.the-variants as record-is

@@ -12,7 +12,7 @@ use Rattle.entry.specs.Numbers.{LOAD, STORE, LT, LTX, ST, INTERRUPT}
 use Rattle.rules.specs.declared.Dims.{Dims}
 use Rattle.rules.specs.State.{Caches}
 use Rattle.rules.specs.Making.{within, powerOfTwo, dimsRefusal, makeRefusal}
-use Rattle.rules.specs.Refusals.{accepted, badMemory}
+use Rattle.entry.specs.Refusals.{accepted, badMemory}
 use Rattle.rules.specs.SoundTest.{lengthsOk, soundOf}
 use Rattle.rules.specs.Step.{stepRefusal, takeStep}
 

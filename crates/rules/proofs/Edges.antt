@@ -6,7 +6,7 @@ use lib.Dec.{T, eqb}
 use lib.ListN.{replicate}
 use Rattle.rules.specs.declared.Dims.{Dims}
 use Rattle.rules.specs.Making.{dims, dimsRefusal, makeRefusal, makeOf}
-use Rattle.rules.specs.Refusals.{accepted, badProcessors, badWords, badLines, badEntries, badMemory}
+use Rattle.entry.specs.Refusals.{accepted, badProcessors, badWords, badLines, badEntries, badMemory}
 use Rattle.rules.proofs.Table.{allOf}
 
 pub record Edge : Type 0 where

@@ -4,3 +4,5 @@ pub mod Edges
 pub mod Worked
 pub mod Readings
 pub mod Slots
+pub mod Answers
+pub mod Taken

@@ -14,7 +14,7 @@ use Rattle.laws.specs.Fold.{foldRange}
 use Rattle.laws.specs.Search.{firstFrom}
 use Rattle.laws.specs.Until.{untilRange}
 use Rattle.laws.specs.Places.{applyFrom}
-use Rattle.rules.specs.Refusals.{accepted}
+use Rattle.entry.specs.Refusals.{accepted}
 use Rattle.rules.specs.Making.{dimsRefusal, makeRefusal, fresh, makeOf}
 use Rattle.rules.specs.Own.{home, findEntry, lowest, freeSlot, liveEntry}
 use Rattle.rules.specs.Rollback.{rolledEntries, statusDown, committedEntries}
@@ -26,7 +26,7 @@ use Rattle.rules.specs.Transact.{dropLine, finish, hit, openNormal, clea
 use Rattle.rules.specs.Ends.{commit, abort, validate, interrupt}
 use Rattle.rules.specs.SoundTest.{markAll, ownAll, copyOk, isHome, lineOk, flagsUp, backupOk}
 use Rattle.rules.specs.SoundTest.{entryOk, linesOk, entriesOk, flagsOk, memoryOk, copiesOk, soundOf}
-use Rattle.rules.specs.Step.{stepRefusal, takeStep}
+use Rattle.rules.specs.Step.{operandsRefusal, takeStep}
 use Rattle.rules.specs.Run.{Steps, steps, Columns, columns, Left, columnsOk, runSound, runOf}
 
 pub record Row : Type 0 where
@@ -92,7 +92,7 @@ unfolding foldRange firstFrom untilRange applyFrom dimsRefusal makeRefusal fresh
     rolledEntries statusDown committedEntries writtenBack writes snoopLine snoopEntry snoopOne snoop opposes firstOpposing refuses rollOne
     rollOthers plainRequest loadMiss loadOn load rollOwn dropNormal storeThrough storeMiss storeLine store dropLine finish hit openNormal
     clearBackup fillBackup fill request missAt miss seek transact commit abort validate interrupt markAll ownAll copyOk isHome lineOk
-    flagsUp backupOk entryOk linesOk entriesOk flagsOk memoryOk copiesOk soundOf stepRefusal takeStep columnsOk runSound runOf
+    flagsUp backupOk entryOk linesOk entriesOk flagsOk memoryOk copiesOk soundOf operandsRefusal takeStep columnsOk runSound runOf
 passes c =
     let m = makeOf (c .machine) (c .memory) in
     let n = length (c .rows) in

@@ -1,4 +1,3 @@
-pub mod Refusals
 pub mod State
 pub mod Making
 pub mod Own

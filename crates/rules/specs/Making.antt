@@ -9,7 +9,7 @@ use Rattle.rules.specs.declared.Dims.{Dims}
 use Rattle.rules.specs.declared.Machine.{Machine}
 use Rattle.rules.specs.declared.Made.{Made}
 use Rattle.rules.specs.State.{Caches, caches, machineOf, trueFlag, falseFlag}
-use Rattle.rules.specs.Refusals.{accepted, badProcessors, badWords, badLines, badEntries, badMemory}
+use Rattle.entry.specs.Refusals.{accepted, badProcessors, badWords, badLines, badEntries, badMemory, unless}
 
 abbrev pub dims : ℕ → ℕ → ℕ → ℕ → Dims
 dims p w l e = record { processors = p; words = w; lines = l; entries = e }
@@ -26,16 +26,16 @@ powerOfTwo n =
 -- processors "1 to 8", words "1 to 256", lines, entries "1 to 64", "checked in the order listed"
 unfoldable pub dimsRefusal : Dims → ℕ
 dimsRefusal d =
-    pick (within (d .processors) 8)
-    (pick (within (d .words) 256)
-    (pick (powerOfTwo (d .lines)) (pick (within (d .entries) 64) accepted badEntries) badLines)
-    badWords)
-    badProcessors
+    unless (within (d .processors) 8) badProcessors
+    (unless (within (d .words) 256) badWords
+    (unless (powerOfTwo (d .lines)) badLines
+    (unless (within (d .entries) 64) badEntries
+    accepted)))
 
 -- 5: "initial memory is not exactly words long"
 unfoldable pub makeRefusal : Dims → List ℕ → ℕ
 makeRefusal d memory =
-    pick (eqb (dimsRefusal d) accepted) (pick (eqb (length memory) (d .words)) accepted badMemory) (dimsRefusal d)
+    unless (eqb (dimsRefusal d) accepted) (dimsRefusal d) (unless (eqb (length memory) (d .words)) badMemory accepted)
 
 -- l and then 0, n places in all
 abbrev pub padded : ℕ → List ℕ → List ℕ
@@ -59,4 +59,4 @@ made n m = record { refusal = n; machine = m }
 unfoldable pub makeOf : Dims → List ℕ → Made
 makeOf d memory =
     let m = machineOf d (fresh d memory) in
-    pick (eqb (makeRefusal d memory) accepted) (made accepted m) (made (makeRefusal d memory) smallest)
+    unless (eqb (makeRefusal d memory) accepted) (made (makeRefusal d memory) smallest) (made accepted m)

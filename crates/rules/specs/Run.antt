@@ -8,14 +8,16 @@ use lib.ListN.{length, getD, set}
 use Rattle.laws.specs.Choice.{pick, both}
 use Rattle.laws.specs.Until.{untilRange}
 use Rattle.entry.specs.declared.answer.Answered.{Answered}
-use Rattle.entry.specs.Answer.{answerNumber, answerValue}
+use Rattle.entry.specs.declared.step.Step.{Step}
+use Rattle.entry.specs.Step.{step}
+use Rattle.entry.specs.Answer.{answerNumber, answerValue, refusalNumber}
 use Rattle.rules.specs.declared.Dims.{Dims}
 use Rattle.rules.specs.declared.Machine.{Machine}
 use Rattle.rules.specs.declared.Ran.{Ran}
 use Rattle.rules.specs.State.{Caches, cachesOf, machineOf, Outcome}
-use Rattle.rules.specs.Refusals.{accepted, notSound, badColumns}
+use Rattle.entry.specs.Refusals.{accepted, notSound, badColumns, unless}
 use Rattle.rules.specs.SoundTest.{soundOf}
-use Rattle.rules.specs.Step.{stepRefusal, takeStep}
+use Rattle.rules.specs.Step.{takeStep}
 
 -- the columns of steps
 pub record Steps : Type 0 where
@@ -26,6 +28,10 @@ pub record Steps : Type 0 where
 
 abbrev pub steps : List ℕ → List ℕ → List ℕ → List ℕ → Steps
 steps a b c d = record { ops = a; cores = b; words = c; values = d }
+
+-- the step at a place
+abbrev pub stepAt : Steps → ℕ → Step
+stepAt x i = step (getD (x .ops) i 0) (getD (x .cores) i 0) (getD (x .words) i 0) (getD (x .values) i 0)
 
 -- the columns of answers: an answer's number, its value, and its six counts
 pub record Columns : Type 0 where
@@ -98,21 +104,22 @@ abbrev pub left : ℕ → ℕ → Machine → Columns → Left
 left taken refusal m c = record { ran = record { taken = taken; refusal = refusal; machine = m }; columns = c }
 
 module _ (d : Dims) (x : Steps) where
-  abbrev pub refusalAt : ℕ → ℕ
-  refusalAt i = stepRefusal d (getD (x .ops) i 0) (getD (x .cores) i 0) (getD (x .words) i 0)
-
-  abbrev pub stopsAt : ℕ → Carried → Bool
-  stopsAt i c = not (eqb (refusalAt i) accepted)
-
   abbrev pub outcomeAt : ℕ → Caches → Outcome
-  outcomeAt i s = takeStep d (getD (x .ops) i 0) (getD (x .cores) i 0) (getD (x .words) i 0) (getD (x .values) i 0) s
+  outcomeAt i s = takeStep d (stepAt x i) s
+
+  abbrev pub refusalAt : ℕ → Caches → ℕ
+  refusalAt i s = refusalNumber (outcomeAt i s .told .answer)
+
+  -- "A run stops before the first refused step"
+  abbrev pub stopsAt : ℕ → Carried → Bool
+  stopsAt i c = not (eqb (refusalAt i (c .state)) accepted)
 
   abbrev pub turn : ℕ → Carried → Carried
   turn i c = let r = outcomeAt i (c .state) in carried (r .after) (written (c .columns) i (r .told))
 
   -- from where the run stopped: the number taken, and the refusal of the step there
   abbrev pub stopped : ℕ → ℕ × Carried → Left
-  stopped n (i, c) = left i (pick (ltb i n) (refusalAt i) accepted) (machineOf d (c .state)) (c .columns)
+  stopped n (i, c) = left i (pick (ltb i n) (refusalAt i (c .state)) accepted) (machineOf d (c .state)) (c .columns)
 
   -- a run of columns of one length, from a sound state
   unfoldable pub runSound : Caches → Columns → Left
@@ -121,4 +128,4 @@ module _ (d : Dims) (x : Steps) where
 unfoldable pub runOf : Machine → Steps → Columns → Left
 runOf m x c =
     let r = runSound (m .dims) x (cachesOf m) c in
-    pick (soundOf (m .dims) (cachesOf m)) (pick (columnsOk x c) r (left 0 badColumns m c)) (left 0 notSound m c)
+    unless (soundOf (m .dims) (cachesOf m)) (left 0 notSound m c) (unless (columnsOk x c) (left 0 badColumns m c) r)

@@ -10,7 +10,7 @@ use Rattle.laws.specs.Search.{firstFrom}
 use Rattle.entry.specs.declared.Entry.{Entry}
 use Rattle.entry.specs.Numbers.{RESERVED, DIRTY, TENTATIVE}
 use Rattle.entry.specs.Packing.{noEntry}
-use Rattle.entry.specs.Entry.{takes, snooped}
+use Rattle.entry.specs.Entry.{reservedOrDirty, takes, snooped}
 use Rattle.rules.specs.declared.Dims.{Dims}
 use Rattle.rules.specs.State.{Caches, caches, copyAt, withCopy, lineAt, entryAt}
 use Rattle.rules.specs.Own.{home, holds, findEntry, liveEntry}
@@ -60,7 +60,7 @@ unfoldable pub opposes : Dims → ℕ → ℕ → ℕ → List ℕ → Bool
 opposes d word cycle q es =
     let i = findEntry es q (d .entries) TENTATIVE word in
     let e = copyAt es q i in
-    pick (ltb i (d .entries)) (either (takes cycle) (leb RESERVED (e .state))) false
+    pick (ltb i (d .entries)) (either (takes cycle) (reservedOrDirty (e .state))) false
 
 abbrev pub otherOpposes : Dims → ℕ → ℕ → ℕ → List ℕ → ℕ → Bool
 otherOpposes d p word cycle es q = both (not (eqb q p)) (opposes d word cycle q es)

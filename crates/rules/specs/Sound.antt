@@ -7,9 +7,9 @@ use Rattle.entry.specs.declared.Entry.{Entry}
 use Rattle.entry.specs.Numbers.{INVALID, RESERVED, DIRTY, BACKUP, TENTATIVE}
 use Rattle.entry.specs.Packing.{packedEnd, noEntry}
 use Rattle.rules.specs.declared.Dims.{Dims}
-use Rattle.rules.specs.State.{Caches, place, lineAt, entryAt, wordAt, activePlace, statusPlace, trueFlag}
+use Rattle.rules.specs.State.{Caches, place, lineAt, entryAt, wordAt, activeFlag, statusFlag, trueFlag}
 use Rattle.rules.specs.Making.{dimsRefusal}
-use Rattle.rules.specs.Refusals.{accepted}
+use Rattle.entry.specs.Refusals.{accepted}
 
 -- the arrays' lengths
 pub record Lengths (s : Caches) : Type 0 where
@@ -18,11 +18,9 @@ pub record Lengths (s : Caches) : Type 0 where
   pub entries : length (s .entries) ≡ 512
   pub flags : length (s .flags) ≡ 16
 
-abbrev pub activeFlag : Caches → ℕ → ℕ
-activeFlag s p = getD (s .flags) (activePlace p) 0
-
-abbrev pub statusFlag : Caches → ℕ → ℕ
-statusFlag s p = getD (s .flags) (statusPlace p) 0
+-- "RESERVED or DIRTY"
+abbrev pub Owning : Entry → Type 0
+Owning e = RESERVED ≤ e .state
 
 -- no invalid line or entry
 abbrev pub Held : Entry → Type 0
@@ -47,11 +45,11 @@ pub record Sound (d : Dims) (s : Caches) : Type 0 where
   pub dimensions : dimsRefusal d ≡ accepted
   pub line-inside : (p i : ℕ) → p < 8 → i < 64 → Held (lineAt s p i) → (p < d .processors) × (i < d .lines)
   pub entry-inside : (p i : ℕ) → p < 8 → i < 64 → Held (entryAt s p i) → (p < d .processors) × (i < d .entries)
-  pub flags-inside : (p : ℕ) → p < 8 → d .processors ≤ p → (activeFlag s p ≡ 0) × (statusFlag s p ≡ 0)
+  pub flags-inside : (p : ℕ) → p < 8 → d .processors ≤ p → (activeFlag (s .flags) p ≡ 0) × (statusFlag (s .flags) p ≡ 0)
   pub memory-inside : (word : ℕ) → word < 256 → d .words ≤ word → wordAt s word ≡ 0
   pub line-codes : (p i : ℕ) → p < 8 → i < 64 → (getD (s .lines) (place p i) 0 < packedEnd) × (lineAt s p i .tag ≡ INVALID)
   pub entry-codes : (p i : ℕ) → p < 8 → i < 64 → getD (s .entries) (place p i) 0 < packedEnd
-  pub flag-codes : (p : ℕ) → p < 8 → (activeFlag s p ≤ trueFlag) × (statusFlag s p ≤ trueFlag)
+  pub flag-codes : (p : ℕ) → p < 8 → (activeFlag (s .flags) p ≤ trueFlag) × (statusFlag (s .flags) p ≤ trueFlag)
   pub words : (p : ℕ) (e : Entry) → p < 8 → HasCopy s p e → Held e → e .word < d .words
   -- "a regular line holds only its own words"
   pub home : (p i : ℕ) → p < 8 → i < 64 → Held (lineAt s p i) → lineAt s p i .word % (d .lines) ≡ i
@@ -72,9 +70,9 @@ pub record Sound (d : Dims) (s : Caches) : Type 0 where
       Tentative s p (entryAt s p i .word)
   -- "tentative entries exist only with TACTIVE and TSTATUS true"
   pub tentative-flags : (p i : ℕ) → p < 8 → i < 64 → entryAt s p i .tag ≡ TENTATIVE →
-      (activeFlag s p ≡ trueFlag) × (statusFlag s p ≡ trueFlag)
+      (activeFlag (s .flags) p ≡ trueFlag) × (statusFlag (s .flags) p ≡ trueFlag)
   -- "RESERVED or DIRTY anywhere means no other processor has the word"
-  pub exclusive : (p q : ℕ) (e f : Entry) → p < 8 → q < 8 → p ≢ q → HasCopy s p e → HasCopy s q f → RESERVED ≤ e .state → Held f →
+  pub exclusive : (p q : ℕ) (e f : Entry) → p < 8 → q < 8 → p ≢ q → HasCopy s p e → HasCopy s q f → Owning e → Held f →
       f .word ≢ e .word
   -- "VALID and RESERVED data equal memory"
   pub clean : (p : ℕ) (e : Entry) → p < 8 → HasCopy s p e → Held e → e .state ≢ DIRTY → e .«data» ≡ wordAt s (e .word)

@@ -11,10 +11,11 @@ use Rattle.laws.specs.Search.{firstFrom}
 use Rattle.entry.specs.declared.Entry.{Entry}
 use Rattle.entry.specs.Numbers.{INVALID, RESERVED, DIRTY, BACKUP, TENTATIVE}
 use Rattle.entry.specs.Packing.{packedEnd, unpack}
+use Rattle.entry.specs.Entry.{reservedOrDirty}
 use Rattle.rules.specs.declared.Dims.{Dims}
-use Rattle.rules.specs.State.{Caches, trueFlag}
+use Rattle.rules.specs.State.{Caches, activeFlag, statusFlag, trueFlag}
 use Rattle.rules.specs.Making.{dimsRefusal}
-use Rattle.rules.specs.Refusals.{accepted}
+use Rattle.entry.specs.Refusals.{accepted}
 
 -- Marks: for each processor, kind and word the last place that has such a copy, and whether a line or an entry. A backup is a kind of its
 -- own: regular, NORMAL and tentative copies share one.
@@ -47,7 +48,7 @@ abbrev pub ownerOf : ℕ → ℕ
 ownerOf j = j / 64 % 8 + 1
 
 abbrev pub ownOne : ℕ → ℕ → List ℕ → List ℕ
-ownOne x j owners = pick (leb RESERVED (unpack x .state)) (set owners (unpack x .word) (ownerOf j)) owners
+ownOne x j owners = pick (reservedOrDirty (unpack x .state)) (set owners (unpack x .word) (ownerOf j)) owners
 
 abbrev pub ownTurn : List ℕ → ℕ → List ℕ → List ℕ
 ownTurn copies j owners = ownOne (getD copies j 0) j owners
@@ -92,7 +93,7 @@ lineOk memory marks owners d x j =
 -- "tentative entries exist only with TACTIVE and TSTATUS true"
 unfoldable pub flagsUp : List ℕ → Entry → ℕ → Bool
 flagsUp flags e j =
-    pick (eqb (e .tag) TENTATIVE) (both (eqb (getD flags (j / 64 % 8) 0) trueFlag) (eqb (getD flags (8 + j / 64 % 8) 0) trueFlag)) true
+    pick (eqb (e .tag) TENTATIVE) (both (eqb (activeFlag flags (j / 64)) trueFlag) (eqb (statusFlag flags (j / 64)) trueFlag)) true
 
 -- the place that the mark of a backup's word names: its tentative entry's, where it has one
 abbrev pub partnerPlace : List ℕ → Entry → ℕ → ℕ

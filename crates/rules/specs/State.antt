@@ -77,11 +77,14 @@ activePlace p = p % 8
 abbrev pub statusPlace : ℕ → ℕ
 statusPlace p = 8 + p % 8
 
-abbrev pub TACTIVE : Caches → ℕ → Bool
-TACTIVE s p = not (eqb (getD (s .flags) (activePlace p) 0) falseFlag)
+abbrev pub activeFlag : List ℕ → ℕ → ℕ
+activeFlag flags p = getD flags (activePlace p) 0
+
+abbrev pub statusFlag : List ℕ → ℕ → ℕ
+statusFlag flags p = getD flags (statusPlace p) 0
 
 abbrev pub TSTATUS : Caches → ℕ → Bool
-TSTATUS s p = not (eqb (getD (s .flags) (statusPlace p) 0) falseFlag)
+TSTATUS s p = not (eqb (statusFlag (s .flags) p) falseFlag)
 
 -- What a step leaves: its answer with six counts, and the state.
 pub record Outcome : Type 0 where

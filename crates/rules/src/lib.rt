@@ -1,6 +1,8 @@
 // The machine's types. What document 01 says of them stands in specs/, one file for each of its paragraphs.
 
 use entry::answer::Answered;
+ghost use mathlib.Core.Path.{_≡_};
+ghost use Rattle.rules.specs.State.{place};
 
 pub struct Dims {
     pub processors: usize,
@@ -24,6 +26,13 @@ pub struct Machine {
     pub lines: Copies,
     pub entries: Copies,
     pub flags: Flags,
+}
+
+// Where processor p's line or entry i stands. The remainders keep every access inside the arrays; within the dimensions they do nothing.
+pub fn place(p: usize, i: usize) -> usize
+    ensures { λ r. ⌜ r ≡ place p i ⌝ }
+{
+    p % 8 * 64 + i % 64
 }
 
 // refusal is 0 where the machine was made.

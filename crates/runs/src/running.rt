@@ -11,7 +11,7 @@ use rules::Memory;
 ghost use mathlib.Core.Path.{_≡_};
 ghost use Prim.Native.Nat.{_≤_};
 ghost use Rattle.rules.specs.State.{outcome};
-ghost use Rattle.rules.specs.Refusals.{accepted};
+ghost use Rattle.entry.specs.Refusals.{accepted};
 ghost use Rattle.rules.specs.Step.{stepRefusal, takeStep};
 ghost use Rattle.rules.specs.Run.{carried, runSound};
 ghost use Rattle.runs.specs.Halting.{halted};

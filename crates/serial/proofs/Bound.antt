@@ -22,7 +22,7 @@ use Rattle.rules.specs.Transact.{requestOf, dropLine, finish, hit, openNormal, 
 use Rattle.rules.specs.Ends.{commit, abort, validate, interrupt}
 use Rattle.rules.specs.Making.{dims}
 use Rattle.rules.specs.SoundTest.{soundOf}
-use Rattle.rules.specs.Refusals.{accepted, notSound}
+use Rattle.entry.specs.Refusals.{accepted, notSound}
 use Rattle.rules.specs.Step.{stepRefusal, takeStep, stepped, steppedOf, stepSound, stepOf}
 use Rattle.rules.proofs.Table.{row, case, passes}
 use Rattle.serial.specs.Bounded.{Bounded}

@@ -9,7 +9,7 @@ use Rattle.rules.specs.declared.Dims.{Dims}
 use Rattle.rules.specs.declared.Machine.{Machine}
 use Rattle.rules.specs.declared.Stepped.{Stepped}
 use Rattle.rules.specs.State.{Caches, cachesOf, machineOf}
-use Rattle.rules.specs.Refusals.{accepted}
+use Rattle.entry.specs.Refusals.{accepted}
 use Rattle.rules.specs.Making.{fresh, makeOf}
 use Rattle.rules.specs.Settled.{settledIn}
 use Rattle.rules.specs.Sound.{Sound}

@@ -16,7 +16,7 @@ use Rattle.rules.specs.declared.Dims.{Dims}
 use Rattle.rules.specs.State.{Caches, lineAt, entryAt, activePlace, statusPlace, falseFlag, trueFlag}
 use Rattle.rules.specs.Own.{home}
 use Rattle.rules.specs.Making.{dimsRefusal}
-use Rattle.rules.specs.Refusals.{accepted}
+use Rattle.entry.specs.Refusals.{accepted}
 use Rattle.rules.specs.Sound.{Sound, Held, HasCopy, Tentative}
 use Rattle.theory.specs.View.{LineState, regular, above, dirtyState, has, exclusive, below}
 use Rattle.theory.specs.View

@@ -17,7 +17,7 @@ use Rattle.rules.specs.declared.Dims.{Dims}
 use Rattle.rules.specs.declared.Machine.{Machine}
 use Rattle.rules.specs.State.{place, copyAt, machineOf, activePlace, statusPlace, falseFlag, trueFlag}
 use Rattle.rules.specs.Own.{home}
-use Rattle.rules.specs.Refusals.{accepted, badMemory}
+use Rattle.entry.specs.Refusals.{accepted, badMemory}
 use Rattle.rules.specs.Making.{dimsRefusal, makeRefusal, padded, freshFlags, fresh, smallest, made, makeOf}
 use Rattle.rules.specs.Sound.{Sound}
 use Rattle.theory.proofs.Cache.{vacant, blank}

@@ -12,7 +12,7 @@ use Rattle.entry.specs.Answer.{refusalNumber, refusedBy}
 use Rattle.rules.specs.declared.Dims.{Dims}
 use Rattle.rules.specs.declared.Machine.{Machine}
 use Rattle.rules.specs.State.{Caches, cachesOf}
-use Rattle.rules.specs.Refusals.{accepted, notSound, badColumns}
+use Rattle.entry.specs.Refusals.{accepted, notSound, badColumns}
 use Rattle.rules.specs.Sound.{Sound}
 use Rattle.rules.specs.SoundTest.{soundOf}
 use Rattle.rules.specs.Step.{stepRefusal, takeStep, stepped, steppedOf, stepSound, stepOf}

@@ -8,7 +8,7 @@ use borrow.Author.Tests.{eqb-true, leb-true}
 use Rattle.laws.specs.Choice.{pick, either, both-left, both-right}
 use Rattle.rules.specs.declared.Dims.{Dims}
 use Rattle.rules.specs.Making.{within, powerOfTwo, dimsRefusal}
-use Rattle.rules.specs.Refusals.{accepted, badProcessors, badWords, badLines, badEntries}
+use Rattle.entry.specs.Refusals.{accepted, badProcessors, badWords, badLines, badEntries}
 use Rattle.serial.proofs.Frame.{Size}
 
 within-range : (n most : ℕ) → within n most ≡ true → (0 < n) × (n ≤ most)

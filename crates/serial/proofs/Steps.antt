@@ -13,7 +13,7 @@ use Rattle.rules.specs.declared.Dims.{Dims}
 use Rattle.rules.specs.State.{Caches, gives, Counted, entryAt, TSTATUS}
 use Rattle.rules.specs.Own.{findEntry}
 use Rattle.rules.specs.Rollback.{begun}
-use Rattle.rules.specs.Refusals.{accepted, noSuchStep, noSuchProcessor, noSuchWord}
+use Rattle.entry.specs.Refusals.{accepted, noSuchStep, noSuchProcessor, noSuchWord}
 use Rattle.rules.specs.Transact.{dropLine, hit, openNormal, miss, seek, transact}
 use Rattle.rules.specs.Step.{stepRefusal, takeStep}
 use Rattle.theory.specs.View.{View}

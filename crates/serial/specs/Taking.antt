@@ -8,7 +8,7 @@ use Rattle.entry.specs.Answer.{refusalNumber}
 use Rattle.rules.specs.declared.Dims.{Dims}
 use Rattle.rules.specs.declared.Machine.{Machine}
 use Rattle.rules.specs.State.{Caches}
-use Rattle.rules.specs.Refusals.{accepted}
+use Rattle.entry.specs.Refusals.{accepted}
 use Rattle.rules.specs.Sound.{Sound}
 use Rattle.rules.specs.Step.{stepOf}
 use Rattle.theory.specs.Event.{Event}

@@ -15,7 +15,7 @@ use Rattle.entry.specs.Packing.{packedEnd, unpack}
 use Rattle.rules.specs.declared.Dims.{Dims}
 use Rattle.rules.specs.State.{Caches}
 use Rattle.rules.specs.Making.{within, dimsRefusal}
-use Rattle.rules.specs.Refusals.{accepted}
+use Rattle.entry.specs.Refusals.{accepted}
 use Rattle.rules.specs.Sound.{Lengths}
 use Rattle.rules.specs.SoundTest.{ofLines, ofEntries, markKey, markValue, marksOf, ownerOf, ownersOf}
 use Rattle.rules.specs.SoundTest.{copyOk, isHome, lineOk, flagsUp, partnerPlace, isPartner, backupOk, entryOk}

@@ -9,7 +9,7 @@ use rules::Flags;
 ghost use mathlib.Core.Path.{_≡_};
 ghost use Rattle.entry.specs.Answer.{answered, noCycles, refusedBy};
 ghost use Rattle.rules.specs.State.{outcome};
-ghost use Rattle.rules.specs.Refusals.{noSuchStep};
+ghost use Rattle.entry.specs.Refusals.{noSuchStep};
 ghost use Rattle.rules.specs.Ends.{commit, abort, validate, interrupt};
 ghost use Rattle.rules.specs.Lent.{onEntriesFlags};
 

@@ -1,0 +1,16 @@
+use native.Mathlib.Omega.{arith}
+use borrow.Author.Needs.{needs}
+use Rattle.entry.proofs.answer.more_if.Statement.{statement}
+use Rattle.entry.proofs.answer.more_if.Tie as tie
+
+add-result : tie.Need-add-result
+add-result c = search needs
+
+returns : tie.Need-returns
+returns c = rw (c .if1 .taken)
+
+returns-2 : tie.Need-returns-2
+returns-2 c = search needs
+
+pub more-if-spec : {M : Type 1} → statement M
+more-if-spec = tie.close (tie.spec add-result returns returns-2)
