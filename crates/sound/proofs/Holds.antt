@@ -12,8 +12,8 @@ use Rattle.entry.specs.declared.Entry.{Entry}
 use Rattle.entry.specs.Numbers.{INVALID, RESERVED, DIRTY, BACKUP, TENTATIVE}
 use Rattle.entry.specs.Packing.{packedEnd, unpack, noEntry}
 use Rattle.rules.specs.declared.Dims.{Dims}
-use Rattle.rules.specs.State.{Caches, place, lineAt, entryAt, wordAt, activePlace, statusPlace}
-use Rattle.rules.specs.Sound.{Held, HasCopy, Sound, activeFlag, statusFlag}
+use Rattle.rules.specs.State.{activeFlag, statusFlag, Caches, place, lineAt, entryAt, wordAt, activePlace, statusPlace}
+use Rattle.rules.specs.Sound.{Held, HasCopy, Sound}
 use Rattle.rules.specs.SoundTest.{ofLines, ofEntries, marksOf, ownersOf, partnerPlace}
 use Rattle.sound.proofs.Places.{place-in, place-processor, place-slot, place-of}
 use Rattle.sound.proofs.Keys.{same-key, value-once, value-kinds, owner-of}
@@ -193,7 +193,7 @@ module _ (d : Dims) (s : Caches) (t : Tested d s) where
       by (yes l) = t .flags j h .0 l
       by (no l) = omega (arith, t .flags j h .1 (omega arith))
 
-  tentative-up : (p i : ℕ) → entryAt s p i .tag ≡ TENTATIVE → (activeFlag s p ≡ 1) × (statusFlag s p ≡ 1)
+  tentative-up : (p i : ℕ) → entryAt s p i .tag ≡ TENTATIVE → (activeFlag (s .flags) p ≡ 1) × (statusFlag (s .flags) p ≡ 1)
   tentative-up p i g =
       let u = tagged-entry p i TENTATIVE g (λ z. omega arith) .up g in
       let e : place p i / 64 % 8 ≡ p % 8 = omega arith in
