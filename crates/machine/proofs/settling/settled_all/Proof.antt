@@ -1,50 +1,50 @@
+use mathlib.Core.Path.{_≡_, _∙_, sym}
+use Prim.Native.Nat.{_≤_, _-_}
+use native.Mathlib.Nat.{sub-zero}
+use native.Mathlib.Omega.{arith}
+use Rattle.laws.specs.Fold.{foldRange, fold-end, fold-turn}
+use Rattle.rules.specs.State.{caches}
+use Rattle.rules.specs.Step.{settleTurn, settledAll}
+use borrow.Author.Needs.{needs}
 use Rattle.machine.proofs.settling.settled_all.Statement.{statement}
 use Rattle.machine.proofs.settling.settled_all.Tie as tie
-use Rattle.machine.proofs.settling.settled_all.Reads as reads
-use Rattle.machine.proofs.settling.settled_all.Lts as lts
-use Rattle.machine.proofs.settling.settled_in.Reads as settled-in-reads
 
 abbrev Inv-loop : tie.InvT-loop
-Inv-loop memory lines entries flags d values₀ n a₀ values a = ?
+Inv-loop memory lines entries flags d values₀ n a₀ values a =
+    (a ≤ d .words) ×
+    (foldRange (settleTurn d (caches memory lines entries flags)) a (d .words - a) values ≡ settledAll d (caches memory lines entries flags))
 
 abbrev μ-loop : tie.MeasureT-loop
-μ-loop memory lines entries flags d values₀ n a₀ values a = ?
+μ-loop memory lines entries flags d values₀ n a₀ values a = d .words - a
 
--- src/settling.rt:127:5
 loop-holds : tie.Need-loop-holds Inv-loop μ-loop
-loop-holds c = ?
+unfolding settledAll
+loop-holds c = (search needs, rw sub-zero)
 
--- src/settling.rt:128:66
 cast-settled-in : tie.Need-cast-settled-in Inv-loop μ-loop
-cast-settled-in c = ?
+cast-settled-in c = omega (arith, c .loop-test .taken, c .before .before .pre)
 
--- src/settling.rt:128:21
 settled-in-requires : tie.Need-settled-in-requires Inv-loop μ-loop
-settled-in-requires c κs = ?
+settled-in-requires c κs = search needs
 
--- src/settling.rt:128:9
 mul-values : tie.Need-mul-values Inv-loop μ-loop
-mul-values c = ?
+mul-values c = search needs
 
--- src/settling.rt:128:9
 array-write-values : tie.Need-array-write-values Inv-loop μ-loop
-array-write-values c = ?
+array-write-values c = omega (arith, c .before .loop-test .taken, c .before .before .before .pre)
 
--- src/settling.rt:129:9
 add-a : tie.Need-add-a Inv-loop μ-loop
-add-a c = ?
+add-a c = omega (arith, c .before .loop-test .taken, c .before .before .before .pre)
 
--- src/settling.rt:127:5
 loop-less : tie.Need-loop-less Inv-loop μ-loop
-loop-less c = ?
+loop-less c = omega (arith, c .before .loop-test .taken)
 
--- src/settling.rt:127:5
 loop-again : tie.Need-loop-again Inv-loop μ-loop
-loop-again c = ?
+loop-again c =
+    (omega (arith, c .before .loop-test .taken), rw (c .settled-in .ensures) (sym (fold-turn _ _ _ _ (c .before .loop-test .taken)) ∙ c .before .before .loop .inv .1))
 
--- src/settling.rt:114:1
 returns : tie.Need-returns Inv-loop μ-loop
-returns c = ?
+returns c = sym (fold-end _ _ _ _ (c .loop-test .left)) ∙ c .before .loop .inv .1
 
 pub settled-all-spec : {M : Type 1} → statement M
 settled-all-spec =
