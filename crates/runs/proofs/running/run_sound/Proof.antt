@@ -1,123 +1,121 @@
+use Rattle.runs.proofs.Turns.{SameLengths, same-refl, written-same, ran-out, halts, takes-turn}
+use Prim.Native.Nat.{_≤_, _-_}
+use mathlib.Core.Path.{_≡_, refl}
+use native.Mathlib.Nat.{sub-zero}
+use native.Mathlib.Omega.{arith}
+use borrow.Author.Needs.{needs}
+use Rattle.laws.specs.Until.{untilRange}
+use lib.ListN.{length}
+use Rattle.rules.specs.State.{caches}
+use Rattle.rules.specs.Run.{steps, columns, carried, stopsAt, turn, runSound}
 use Rattle.runs.proofs.running.run_sound.Statement.{statement}
 use Rattle.runs.proofs.running.run_sound.Tie as tie
-use Rattle.runs.proofs.running.run_sound.Reads as reads
-use Rattle.runs.proofs.running.run_sound.Lts as lts
-use Rattle.entry.proofs.answer.Answer.refusal.Reads as refusal-reads
-use Rattle.runs.proofs.columns.write_answer.Reads as write-answer-reads
-use Rattle.runs.proofs.running.step_at.Reads as step-at-reads
-use Rattle.steps.proofs.take_step.Reads as take-step-reads
 
 abbrev Inv-loop : tie.InvT-loop
-Inv-loop memory₀ lines₀ entries₀ flags₀ d ops cores words values answers₀ results₀ read₀ rfo₀ write₀ t-read₀ t-rfo₀ busy₀ n i₀ memory lines entries flags answers results read rfo write t-read t-rfo busy i =
-    ?
+Inv-loop memory₀ lines₀ entries₀ flags₀ d ops cores words values answers₀ results₀ read₀ rfo₀ write₀ t-read₀ t-rfo₀ busy₀ n i₀
+    memory lines entries flags answers results read rfo write t-read t-rfo busy i =
+    (i ≤ length ops) ×
+    (untilRange (stopsAt d (steps ops cores words values)) (turn d (steps ops cores words values)) i (length ops - i)
+    (carried (caches memory lines entries flags) (columns answers results read rfo write t-read t-rfo busy)) ≡
+    untilRange (stopsAt d (steps ops cores words values)) (turn d (steps ops cores words values)) 0 (length ops)
+    (carried (caches memory₀ lines₀ entries₀ flags₀) (columns answers₀ results₀ read₀ rfo₀ write₀ t-read₀ t-rfo₀ busy₀))) ×
+    SameLengths (columns answers results read rfo write t-read t-rfo busy) (columns answers₀ results₀ read₀ rfo₀ write₀ t-read₀ t-rfo₀ busy₀)
 
 abbrev μ-loop : tie.MeasureT-loop
-μ-loop memory₀ lines₀ entries₀ flags₀ d ops cores words values answers₀ results₀ read₀ rfo₀ write₀ t-read₀ t-rfo₀ busy₀ n i₀ memory lines entries flags answers results read rfo write t-read t-rfo busy i =
-    ?
+μ-loop memory₀ lines₀ entries₀ flags₀ d ops cores words values answers₀ results₀ read₀ rfo₀ write₀ t-read₀ t-rfo₀ busy₀ n i₀
+    memory lines entries flags answers results read rfo write t-read t-rfo busy i =
+    length ops - i
 
--- src/running.rt:61:5
 loop-holds : tie.Need-loop-holds Inv-loop μ-loop
-loop-holds c = ?
+loop-holds c = (search needs, rw sub-zero, same-refl _)
 
--- src/running.rt:62:13
 step-at-requires : tie.Need-step-at-requires Inv-loop μ-loop
-step-at-requires c κs = ?
+step-at-requires c κs = search needs
 
--- src/running.rt:63:13
 take-step-requires : tie.Need-take-step-requires Inv-loop μ-loop
-take-step-requires c κs = ?
+take-step-requires c κs = search needs
 
--- src/running.rt:65:13
 refusal-requires : tie.Need-refusal-requires Inv-loop μ-loop
-refusal-requires c κs = ?
+refusal-requires c κs = search needs
 
--- src/running.rt:67:13
 same-length : tie.Need-same-length Inv-loop μ-loop
-same-length c = ?
+same-length c = c .before .before .before .before .before .before .before .before .before .loop .inv .2 .answers
 
--- src/running.rt:67:13
 same-length-2 : tie.Need-same-length-2 Inv-loop μ-loop
-same-length-2 c = ?
+same-length-2 c = c .before .before .before .before .before .before .before .before .before .loop .inv .2 .results
 
--- src/running.rt:67:13
 same-length-3 : tie.Need-same-length-3 Inv-loop μ-loop
-same-length-3 c = ?
+same-length-3 c = c .before .before .before .before .before .before .before .before .before .loop .inv .2 .read
 
--- src/running.rt:67:13
 same-length-4 : tie.Need-same-length-4 Inv-loop μ-loop
-same-length-4 c = ?
+same-length-4 c = c .before .before .before .before .before .before .before .before .before .loop .inv .2 .rfo
 
--- src/running.rt:67:13
 same-length-5 : tie.Need-same-length-5 Inv-loop μ-loop
-same-length-5 c = ?
+same-length-5 c = c .before .before .before .before .before .before .before .before .before .loop .inv .2 .write
 
--- src/running.rt:67:13
 same-length-6 : tie.Need-same-length-6 Inv-loop μ-loop
-same-length-6 c = ?
+same-length-6 c = c .before .before .before .before .before .before .before .before .before .loop .inv .2 .t-read
 
--- src/running.rt:67:13
 same-length-7 : tie.Need-same-length-7 Inv-loop μ-loop
-same-length-7 c = ?
+same-length-7 c = c .before .before .before .before .before .before .before .before .before .loop .inv .2 .t-rfo
 
--- src/running.rt:67:13
 same-length-8 : tie.Need-same-length-8 Inv-loop μ-loop
-same-length-8 c = ?
+same-length-8 c = c .before .before .before .before .before .before .before .before .before .loop .inv .2 .busy
 
--- src/running.rt:67:13
 returns : tie.Need-returns Inv-loop μ-loop
-returns c = ?
+unfolding runSound
+returns c = let x = c .before .before .before .before .before .before .before .before .before .before .before .before .before .before .before .before .before .before .before .before .before .before .args in
+    halts (x .d) (steps (x .ops .now) (x .cores .now) (x .words .now) (x .values .now)) (c .before .before .before .before .before .before .before .before .before .loop .i) (length (x .ops .now)) _ _ (c .before .before .before .before .before .before .before .before .before .loop .inv .1)
+    (omega (arith, c .before .before .before .before .before .before .before .before .loop-test)) (c .before .before .before .before .before .before .before .step-at .result) (c .before .before .before .before .before .before .before .step-at .ensures) (c .before .before .take-step .result) _ (c .before .before .take-step .ensures) (c .before .refusal .result)
+    (c .before .refusal .ensures) (c .if1 .taken) _ refl
 
--- src/running.rt:72:9
 write-answer-requires : tie.Need-write-answer-requires Inv-loop μ-loop
-write-answer-requires c κs = ?
+write-answer-requires c κs = search needs
 
--- src/running.rt:84:9
 add-i : tie.Need-add-i Inv-loop μ-loop
-add-i c = ?
+add-i c = omega (arith, c .before .before .before .before .before .before .before .before .before .before .before .before .before .before .before .before .before .before .before .before .before .before .before .before .before .before .before .before .before .before .before .before .before .loop-test, c .before .before .before .before .before .before .before .before .before .before .before .before .before .before .before .before .before .before .before .before .before .before .before .before .before .before .before .before .before .before .before .before .before .before .before .before .before .before .before .before .before .before .before .before .before .before .before .good)
 
--- src/running.rt:61:5
 loop-less : tie.Need-loop-less Inv-loop μ-loop
-loop-less c = ?
+loop-less c = omega (arith, c .before .before .before .before .before .before .before .before .before .before .before .before .before .before .before .before .before .before .before .before .before .before .before .before .before .before .before .before .before .before .before .before .before .loop-test)
 
--- src/running.rt:61:5
 loop-again : tie.Need-loop-again Inv-loop μ-loop
-loop-again c = ?
+loop-again c = let x = c .before .before .before .before .before .before .before .before .before .before .before .before .before .before .before .before .before .before .before .before .before .before .before .before .before .before .before .before .before .before .before .before .before .before .before .before .before .before .before .before .before .before .before .before .before .before .before .args in (
+  omega (arith, c .before .before .before .before .before .before .before .before .before .before .before .before .before .before .before .before .before .before .before .before .before .before .before .before .before .before .before .before .before .before .before .before .before .loop-test),
+  takes-turn (x .d) (steps (x .ops .now) (x .cores .now) (x .words .now) (x .values .now)) (c .before .before .before .before .before .before .before .before .before .before .before .before .before .before .before .before .before .before .before .before .before .before .before .before .before .before .before .before .before .before .before .before .before .before .loop .i) (length (x .ops .now)) _ _ (c .before .before .before .before .before .before .before .before .before .before .before .before .before .before .before .before .before .before .before .before .before .before .before .before .before .before .before .before .before .before .before .before .before .before .loop .inv .1)
+      (omega (arith, c .before .before .before .before .before .before .before .before .before .before .before .before .before .before .before .before .before .before .before .before .before .before .before .before .before .before .before .before .before .before .before .before .before .loop-test)) (c .before .before .before .before .before .before .before .before .before .before .before .before .before .before .before .before .before .before .before .before .before .before .before .before .before .before .before .before .before .before .before .before .step-at .result) (c .before .before .before .before .before .before .before .before .before .before .before .before .before .before .before .before .before .before .before .before .before .before .before .before .before .before .before .before .before .before .before .before .step-at .ensures) (c .before .before .before .before .before .before .before .before .before .before .before .before .before .before .before .before .before .before .before .before .before .before .before .before .before .before .before .take-step .result) _ (c .before .before .before .before .before .before .before .before .before .before .before .before .before .before .before .before .before .before .before .before .before .before .before .before .before .before .before .take-step .ensures) (c .before .before .before .before .before .before .before .before .before .before .before .before .before .before .before .before .before .before .before .before .before .before .before .before .before .before .refusal .result)
+      (c .before .before .before .before .before .before .before .before .before .before .before .before .before .before .before .before .before .before .before .before .before .before .before .before .before .before .refusal .ensures) (c .before .before .before .before .before .before .before .before .before .before .before .before .before .before .before .before .before .before .before .before .before .before .before .before .before .if1 .left) _ (c .before .before .before .before .before .before .before .before .before .before .before .before .before .before .before .before .write-answer .ensures),
+  written-same _ _ _ (c .before .before .before .before .before .before .before .before .before .before .before .before .before .before .before .before .before .before .before .before .before .before .before .before .before .before .before .before .before .before .before .before .before .before .loop .i) (c .before .before .before .before .before .before .before .before .before .before .before .before .before .before .before .before .before .before .before .before .before .before .before .before .before .before .before .take-step .result) (c .before .before .before .before .before .before .before .before .before .before .before .before .before .before .before .before .write-answer .ensures) (c .before .before .before .before .before .before .before .before .before .before .before .before .before .before .before .before .before .before .before .before .before .before .before .before .before .before .before .before .before .before .before .before .before .before .loop .inv .2),
+)
 
--- src/running.rt:35:1
 same-length-9 : tie.Need-same-length-9 Inv-loop μ-loop
-same-length-9 c = ?
+same-length-9 c = c .before .loop .inv .2 .answers
 
--- src/running.rt:35:1
 same-length-10 : tie.Need-same-length-10 Inv-loop μ-loop
-same-length-10 c = ?
+same-length-10 c = c .before .loop .inv .2 .results
 
--- src/running.rt:35:1
 same-length-11 : tie.Need-same-length-11 Inv-loop μ-loop
-same-length-11 c = ?
+same-length-11 c = c .before .loop .inv .2 .read
 
--- src/running.rt:35:1
 same-length-12 : tie.Need-same-length-12 Inv-loop μ-loop
-same-length-12 c = ?
+same-length-12 c = c .before .loop .inv .2 .rfo
 
--- src/running.rt:35:1
 same-length-13 : tie.Need-same-length-13 Inv-loop μ-loop
-same-length-13 c = ?
+same-length-13 c = c .before .loop .inv .2 .write
 
--- src/running.rt:35:1
 same-length-14 : tie.Need-same-length-14 Inv-loop μ-loop
-same-length-14 c = ?
+same-length-14 c = c .before .loop .inv .2 .t-read
 
--- src/running.rt:35:1
 same-length-15 : tie.Need-same-length-15 Inv-loop μ-loop
-same-length-15 c = ?
+same-length-15 c = c .before .loop .inv .2 .t-rfo
 
--- src/running.rt:35:1
 same-length-16 : tie.Need-same-length-16 Inv-loop μ-loop
-same-length-16 c = ?
+same-length-16 c = c .before .loop .inv .2 .busy
 
--- src/running.rt:35:1
 returns-2 : tie.Need-returns-2 Inv-loop μ-loop
-returns-2 c = ?
+unfolding runSound
+returns-2 c = let x = c .before .before .before .before .before .before .before .before .before .before .before .before .before .before .args in
+    ran-out (x .d) (steps (x .ops .now) (x .cores .now) (x .words .now) (x .values .now)) (c .before .loop .i) (length (x .ops .now)) _ _ (c .before .loop .inv .1)
+    (omega (arith, c .loop-test))
 
 pub run-sound-spec : {M : Type 1} → statement M
 run-sound-spec =
