@@ -8,8 +8,10 @@ use Rattle.laws.specs.Choice.{pick}
 use Rattle.entry.specs.declared.Entry.{Entry}
 use Rattle.entry.specs.declared.answer.Answer.the-variants.{Value, Done, Success}
 use Rattle.entry.specs.declared.answer.Counts.{Counts}
+use Rattle.entry.specs.declared.step.Step.{Step}
 use Rattle.entry.specs.Numbers.{VALID, DIRTY, NORMAL, TENTATIVE, LOAD, STORE, LT, LTX, ST, COMMIT, ABORT, VALIDATE, INTERRUPT, RFO, T-READ, T-RFO}
 use Rattle.entry.specs.Answer.{asked, quiet, noCycles, refusedBy}
+use Rattle.entry.specs.Refusals.{accepted, notSound}
 use Rattle.rules.specs.declared.Dims.{Dims}
 use Rattle.rules.specs.declared.Machine.{Machine}
 use Rattle.rules.specs.State.{Caches, cachesOf, Outcome, Counted, counted, lineAt, entryAt, TSTATUS}
@@ -22,8 +24,7 @@ use Rattle.rules.specs.Transact.{requestOf, dropLine, finish, hit, openNormal, 
 use Rattle.rules.specs.Ends.{commit, abort, validate, interrupt}
 use Rattle.rules.specs.Making.{dims}
 use Rattle.rules.specs.SoundTest.{soundOf}
-use Rattle.entry.specs.Refusals.{accepted, notSound}
-use Rattle.rules.specs.Step.{stepRefusal, takeStep, stepped, steppedOf, stepSound, stepOf}
+use Rattle.rules.specs.Step.{operandsRefusal, allowed, narrowed, takeStep, stepped, steppedOf, stepOf}
 use Rattle.rules.proofs.Table.{row, case, passes}
 use Rattle.serial.specs.Bounded.{Bounded}
 use Rattle.serial.proofs.Access.{Access, lt, ltx, st, number}
@@ -150,31 +151,43 @@ module _ (d : Dims) (p w : ℕ) where
         (seek-bound a (dropLine d p w t) (counted-most (holds (lineAt t p (home d w)) w) _ _ (one-write (lineAt t p (home d w))) (omega arith)))
         nothing
 
-pub step-bound : (d : Dims) (op p w v : ℕ) (s : Caches) → Bounded (takeStep d op p w v s .told .counts)
-unfolding takeStep commit abort validate interrupt
-step-bound d op p w v s =
-    either-way (eqb op LOAD) _ _ (load-bound d p w s)
-    (either-way (eqb op STORE) _ _ (store-bound d p w v s)
-    (either-way (eqb op LT) _ _ (transact-bound d p w v lt s)
-    (either-way (eqb op LTX) _ _ (transact-bound d p w v ltx s)
-    (either-way (eqb op ST) _ _ (transact-bound d p w v st s)
-    (either-way (eqb op COMMIT) _ _ (either-way (TSTATUS s p) _ _ nothing nothing)
-    (either-way (eqb op ABORT) _ _ nothing
-    (either-way (eqb op VALIDATE) _ _ (either-way (TSTATUS s p) _ _ nothing nothing) (either-way (eqb op INTERRUPT) _ _ nothing nothing))))))))
+module _ (d : Dims) (x : Step) (s : Caches) where
+  allowed-bound : (r : Outcome) → Within r → Within (allowed d x s r)
+  allowed-bound r h = either-way (eqb (operandsRefusal d x) accepted) _ _ h nothing
+
+  pub step-bound : Bounded (takeStep d x s .told .counts)
+  unfolding takeStep commit abort validate interrupt
+  step-bound =
+      either-way (eqb op LOAD) _ _ (allowed-bound _ (load-bound d p w s))
+      (either-way (eqb op STORE) _ _ (allowed-bound _ (store-bound d p w v s))
+      (either-way (eqb op LT) _ _ (allowed-bound _ (transact-bound d p w v lt s))
+      (either-way (eqb op LTX) _ _ (allowed-bound _ (transact-bound d p w v ltx s))
+      (either-way (eqb op ST) _ _ (allowed-bound _ (transact-bound d p w v st s))
+      (either-way (eqb op COMMIT) _ _ (allowed-bound _ (either-way (TSTATUS s p) _ _ nothing nothing))
+      (either-way (eqb op ABORT) _ _ (allowed-bound _ nothing)
+      (either-way (eqb op VALIDATE) _ _ (allowed-bound _ (either-way (TSTATUS s p) _ _ nothing nothing))
+      (either-way (eqb op INTERRUPT) _ _ (allowed-bound _ nothing) nothing))))))))
+    where
+      op : ℕ
+      op = x .op
+
+      p : ℕ
+      p = x .core
+
+      w : ℕ
+      w = narrowed (x .word)
+
+      v : ℕ
+      v = x .value
 
 -- the machine's step, a refused one too
-pub machine-bound : (m : Machine) (op p w v : ℕ) → Bounded (stepOf m op p w v .told .counts)
-unfolding stepOf stepSound
-machine-bound m op p w v = by (soundOf (m .dims) (cachesOf m)) (eqb (stepRefusal (m .dims) op p w) accepted)
+pub machine-bound : (m : Machine) (x : Step) → Bounded (stepOf m x .told .counts)
+unfolding stepOf
+machine-bound m x = by (soundOf (m .dims) (cachesOf m))
   where
-    by : (a b : Bool)
-        → Bounded
-        (pick a
-        (pick b (steppedOf (m .dims) (takeStep (m .dims) op p w v (cachesOf m))) (stepped (refusedBy (stepRefusal (m .dims) op p w)) m))
-        (stepped (refusedBy notSound) m) .told .counts)
-    by true true = step-bound (m .dims) op p w v (cachesOf m)
-    by true false = nothing
-    by false b = nothing
+    by : (b : Bool) → Bounded (pick b (steppedOf (m .dims) (takeStep (m .dims) x (cachesOf m))) (stepped (refusedBy notSound) m) .told .counts)
+    by true = step-bound (m .dims) x (cachesOf m)
+    by false = nothing
 
 -- the last LT drops a DIRTY regular copy of its word, and both its slots were DIRTY NORMAL entries
 pub three-writes : T
