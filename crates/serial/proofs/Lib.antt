@@ -17,6 +17,7 @@ pub mod Access
 pub mod Normal
 pub mod Miss
 pub mod Steps
+pub mod Operands
 pub mod Sizes
 pub mod SoundFit
 pub mod Under
