@@ -26,14 +26,14 @@ use Rattle.serial.specs.Shown.{shows}
 use Rattle.serial.specs.Taking.{Values, start, StepAnswer, stepAnswer, Took, nothing, then, answerTo, events}
 use Rattle.serial.proofs.Decode.{seen}
 use Rattle.serial.proofs.Set.{Fit}
-use Rattle.serial.proofs.Requests.{beyond}
+use Rattle.serial.proofs.Requests.{beyond-none}
 use Rattle.serial.proofs.Ends.{Does}
 use Rattle.serial.proofs.Steps.{step-does}
 use Rattle.serial.proofs.SoundCoherent.{seen-coarse}
 use Rattle.serial.proofs.FitSound.{fit-sound}
 use Rattle.serial.proofs.Settles.{settled-in}
 use Rattle.serial.proofs.Fresh.{fresh-fit, fresh-bare, fresh-memory, made-of}
-use Rattle.serial.proofs.Kept.{Stepping, stepping}
+use Rattle.serial.proofs.Kept.{Stepping, accepted-stepping}
 
 -- where the steps lead
 pub record Reached (d : Dims) (s : Caches) (xs : List StepAnswer) (m′ : Machine) : Type 0 where
@@ -42,16 +42,16 @@ pub record Reached (d : Dims) (s : Caches) (xs : List StepAnswer) (m′ : Machin
   pub fit : Fit d state
   pub history : History (d .processors) (seen d s) (events xs) (seen d state)
 
-reach : {m m′ : Machine} {xs : List StepAnswer} (d : Dims) (s : Caches) → m ≡ machineOf d s → Fit d s → Took m xs m′ → Reached d s xs m′
+took-reaches : {m m′ : Machine} {xs : List StepAnswer} (d : Dims) (s : Caches) → m ≡ machineOf d s → Fit d s → Took m xs m′ → Reached d s xs m′
 unfolding events
-reach d s e F nothing = record { state = s; is = e; fit = F; history = History.nothing }
-reach {m} {m′} d s e F (then {xs = xs} x lv r t) = from (reach d after next (does .fit) t)
+took-reaches d s e F nothing = record { state = s; is = e; fit = F; history = History.nothing }
+took-reaches {m} {m′} d s e F (then {xs = xs} x lv r t) = from (took-reaches d after next (does .fit) t)
   where
     after : Caches
     after = takeStep d x s .after
 
     ok : Stepping (machineOf d s) x
-    ok = subst (λ (y : Machine). Stepping y x) e (stepping m x r)
+    ok = subst (λ (y : Machine). Stepping y x) e (accepted-stepping m x r)
 
     next : stepOf m x .machine ≡ machineOf d after
     next = ap (λ (y : Machine). stepOf y x .machine) e ∙ ap (λ (y : Stepped). y .machine) (ok .is)
@@ -69,7 +69,7 @@ reach {m} {m′} d s e F (then {xs = xs} x lv r t) = from (reach d after next (d
       fit = y .fit;
       history = History.then
           (subst⁻¹ (λ (a : Answer). Protocol.Step (d .processors) (seen d s) (seen d after) (shows x a)) answer (does .step))
-          (beyond d after) (y .history);
+          (beyond-none d after) (y .history);
     }
 
 -- all that is known of where the steps lead
@@ -83,11 +83,11 @@ pub record Agreed (d : Dims) (memory : List ℕ) (xs : List StepAnswer) (m : Mac
 
 module _ (d : Dims) (memory : List ℕ) (values : Values memory) (ok : makeOf d memory .refusal ≡ accepted) (xs : List StepAnswer) (m : Machine)
     (t : Took (makeOf d memory .machine) xs m) where
-  pub agreed : Agreed d memory xs m
-  agreed =
+  pub took-agrees : Agreed d memory xs m
+  took-agrees =
       let o = made-of d memory ok in
       let F = fresh-fit d memory (o .dims) (o .long) values in
-      let r = reach d (fresh d memory) (o .machine) F t in
+      let r = took-reaches d (fresh d memory) (o .machine) F t in
       let h = subst (Known (events xs) (r .state)) (fun-ext (fresh-memory d memory (o .dims) (o .long) values))
       (history-serial (d .processors) (fresh-bare d memory (o .dims) (o .long) values) (r .history)) in
       let A = coherent→agree (d .processors) (h .3) (seen-coarse (r .fit)) in
@@ -114,7 +114,7 @@ module _ (d : Dims) (memory : List ℕ) (values : Values memory) (ok : makeOf d 
   demand-3 = (a .serial, value)
     where
       a : Agreed d memory xs m
-      a = agreed
+      a = took-agrees
 
       value : (w : ℕ) → w < d .words → settledOf m w ≡ Value (afterEvents (events xs) (start memory) .val w)
       value w l =
@@ -124,7 +124,7 @@ module _ (d : Dims) (memory : List ℕ) (values : Values memory) (ok : makeOf d 
   -- Every VALUE that a transaction was answered, also one that later aborts or never ends, is, with its own earlier writes, the plain memory's
   -- at that step.
   pub opacity : Opaque (events xs) (start memory)
-  opacity = agreed .opaque-reads
+  opacity = took-agrees .opaque-reads
 
   pub took-sound : Sound (m .dims) (cachesOf m)
-  took-sound = agreed .sound
+  took-sound = took-agrees .sound

@@ -23,7 +23,7 @@ use Rattle.rules.proofs.Taken.{Taken, taken}
 use Rattle.theory.proofs.Coherent.{coherent-step}
 use Rattle.sound.proofs.Exact.{sound-true}
 use Rattle.serial.specs.Taking.{valueEnd, Values, SoundState, answerTo}
-use Rattle.serial.proofs.Requests.{beyond}
+use Rattle.serial.proofs.Requests.{beyond-none}
 use Rattle.serial.proofs.Steps.{step-does}
 use Rattle.serial.proofs.SoundFit.{sound-fit}
 use Rattle.serial.proofs.SoundCoherent.{sound-coherent, seen-coarse}
@@ -39,7 +39,7 @@ step-kept {d} {s} G x lv = by (eqb n accepted) refl
     by true h =
         let F = sound-fit (G .sound) (G .values) in
         let o = step-does F x (taken d x s (eqb-true n accepted h)) lv in
-        let C = coherent-step (d .processors) (sound-coherent (G .sound) (G .values)) (seen-coarse F) (beyond d (takeStep d x s .after))
+        let C = coherent-step (d .processors) (sound-coherent (G .sound) (G .values)) (seen-coarse F) (beyond-none d (takeStep d x s .after))
         (o .step) in
         record { sound = fit-sound (o .fit) C (G .sound .dimensions); values = o .fit .frame .memory .small }
     by false h = subst⁻¹ (SoundState d) (refused-stays d x s (eqb-false n accepted h)) G
@@ -49,9 +49,9 @@ pub record Stepping (m : Machine) (x : Step) : Type 0 where
   pub fields : Taken (m .dims) x
   pub is : stepOf m x ≡ steppedOf (m .dims) (takeStep (m .dims) x (cachesOf m))
 
-pub stepping : (m : Machine) (x : Step) → refusalNumber (answerTo m x) ≡ accepted → Stepping m x
+pub accepted-stepping : (m : Machine) (x : Step) → refusalNumber (answerTo m x) ≡ accepted → Stepping m x
 unfolding stepOf
-stepping m x e = by (soundOf (m .dims) (cachesOf m)) refl e
+accepted-stepping m x e = by (soundOf (m .dims) (cachesOf m)) refl e
   where
     by : (a : Bool) → soundOf (m .dims) (cachesOf m) ≡ a
         → refusalNumber

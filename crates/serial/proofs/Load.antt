@@ -33,7 +33,7 @@ use Rattle.serial.proofs.Ends.{Does, rollback-fit, rollback-is}
 use Rattle.serial.proofs.Codes.{above-code, tagged-fits}
 use Rattle.serial.proofs.Find.{home-in, is-none, found-tag, found-word, entry-fits, backing, has-regular}
 use Rattle.serial.proofs.Find.{no-regular, has-normal, has-tentative, no-normal, no-tentative}
-use Rattle.serial.proofs.Requests.{Served, by-force, is-READ}
+use Rattle.serial.proofs.Requests.{Served, plain-request-served, is-READ}
 use Rattle.serial.proofs.Lined.{lined-at, lined-fit, lined-regular, own-line, own-copy, Evicted, evicts}
 
 -- a held line of a word of the machine
@@ -58,12 +58,12 @@ module _ {d : Dims} {s : Caches} (F : Fit d s) (p : ℕ) (lp : p < d .processors
   ev = evicts F p lp w gone
 
   bus : Served d p s₁ s₂ × Plainly reading (d .processors) p w (seen d s₁) (seen d s₂)
-  bus = by-force (ev .fit) reading READ is-READ p w lp
+  bus = plain-request-served (ev .fit) reading READ is-READ p w lp
 
-  pub missed : Fit d (Load.loadMiss d p w s .after)
+  pub load-miss-fetched : Fit d (Load.loadMiss d p w s .after)
       × Fetched (d .processors) p w (wordAt s₂ w) (seen d s) (seen d (Load.loadMiss d p w s .after))
   unfolding Load.loadMiss
-  missed = (
+  load-miss-fetched = (
     lined-fit F₂ p lp w h refl M to rt ft refl old free,
     record {
       gap = seen d s₁;
@@ -145,7 +145,7 @@ module _ {d : Dims} {s : Caches} (F : Fit d s) (p : ℕ) (lp : p < d .processors
           }
       by false e =
           let g = is-none (seen d s .copy w p) nr (no-normal F p lp w (ltb-false i (d .entries) e)) nt in
-          let x = missed F p lp w lw g in
+          let x = load-miss-fetched F p lp w lw g in
           record { fit = x .0; step = load-miss g (x .1) }
 
   -- a tentative copy above VALID: rollback, and then its backup, or a miss
@@ -176,7 +176,7 @@ module _ {d : Dims} {s : Caches} (F : Fit d s) (p : ℕ) (lp : p < d .processors
             let nr : isRegular (seen d (rollback d p s) .copy w p) ≡ false = rw (U .cache .here w) (rolled-regular (seen d s .copy w p) (rw was)) in
             let nt : isTentative (seen d (rollback d p s) .copy w p) ≡ false = rw (U .cache .here w) (rolledBack-tentative (seen d s .copy w p)) in
             let g = is-none (seen d (rollback d p s) .copy w p) nr (no-normal R p lp w (ltb-false i (d .entries) e)) nt in
-            let m = missed R p lp w lw g in
+            let m = load-miss-fetched R p lp w lw g in
             let z = unroll-none (seen d s .copy w p) (rw was) (sym (U .cache .here w) ∙ g) in
             record { fit = m .0; step = load-bare (z .3) (cc (z .3)) U (m .1) }
 

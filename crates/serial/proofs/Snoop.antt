@@ -187,7 +187,8 @@ module _ {d : Dims} {s : Caches} (F : Fit d s) (q : ℕ) (lq : q < d .processors
       turn : SlotSet (d .entries) (home d) q i (slotOf to) w (decoded d s) (decoded d t′)
       turn = set-slot (F .frame) entry-memory q i lq to rt li
 
-      asked-by : AllTidy (d .entries) (home d) (decoded d t′) → OnlyWord q w (seen d s) (seen d t′) → seen d t′ .copy w q ≡ snoops k (seen d s .copy w q)
+      asked-by : AllTidy (d .entries) (home d) (decoded d t′) → OnlyWord q w (seen d s) (seen d t′)
+          → seen d t′ .copy w q ≡ snoops k (seen d s .copy w q)
           → getD (writtenBack (s .memory) e) w 0 ≡ supplied (seen d s .copy w q) (wordAt s w) → Asked d k w q s t′
       asked-by T a c m = record {
         fit = entry-fit (F .frame) entry-memory q i lq to rt li ft T;

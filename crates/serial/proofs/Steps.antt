@@ -28,11 +28,11 @@ use Rattle.serial.proofs.Decode.{seen}
 use Rattle.serial.proofs.Set.{Fit}
 use Rattle.serial.proofs.Ends.{Does, begun-fit, begun-is, status-at, interrupt-does, validate-does, commit-does, abort-does}
 use Rattle.serial.proofs.Find.{is-none, found-tag, found-word, has-tentative, no-normal, no-tentative}
-use Rattle.serial.proofs.Lined.{Unlined, unlined}
+use Rattle.serial.proofs.Lined.{Unlined, drop-line-unlined}
 use Rattle.serial.proofs.Load.{load-does}
 use Rattle.serial.proofs.Store.{store-does}
 use Rattle.serial.proofs.Access.{Access, lt, ltx, st, number, hit-does}
-use Rattle.serial.proofs.Normal.{began}
+use Rattle.serial.proofs.Normal.{open-normal-began}
 use Rattle.serial.proofs.Miss.{miss-does}
 
 -- TSTATUS is true, and p has no regular copy
@@ -65,7 +65,7 @@ module _ {d : Dims} (a : Access) (p : ℕ) (lp : p < d .processors) (w : ℕ) (l
           (k .writes) 0
       by false hx true hy =
           let l = ltb-true j (d .entries) hy in
-          let g = began F p lp w j l (found-tag s p (d .entries) NORMAL w l) (found-word s p (d .entries) NORMAL w l) in
+          let g = open-normal-began F p lp w j l (found-tag s p (d .entries) NORMAL w l) (found-word s p (d .entries) NORMAL w l) in
           hit-does p lp w v lv (g .fit) (O (seen d (openNormal d p j s .after)) (opens (g .begun))) j l (g .tag) (g .word) a (k .writes)
           (openNormal d p j s .writes)
       by false hx false hy =
@@ -88,7 +88,7 @@ transact-does {d} {s} F a p lp w lw v lv = by (TSTATUS t p) refl
     status = sym (begun-is F p lp .status) ∙ status-at F₁ p lp
 
     U : Unlined d p w t (dropLine d p w t .after)
-    U = unlined F₁ p lp w
+    U = drop-line-unlined F₁ p lp w
 
     by : (b : Bool) → TSTATUS t p ≡ b
         → Does d (seen d s) (byAccess p w v) (pick b (seek d (number a) p w v (dropLine d p w t)) (gives Aborted noCycles t))
