@@ -28,3 +28,4 @@ pub mod Fresh
 pub mod Kept
 pub mod Demand3
 pub mod Bound
+pub mod Unused
