@@ -26,6 +26,7 @@ use Rattle.theory.proofs.Agree.{rolledBack-tentative}
 use Rattle.theory.specs.Protocol.{load-hit, load-back, load-miss, load-bare, Fetched, Plainly, reading, isRegular, RolledBack}
 use Rattle.theory.proofs.Refine.{same-refl, freed-none}
 use Rattle.serial.specs.Shown.{byLoad}
+use Rattle.serial.specs.Taking.{valueEnd}
 use Rattle.serial.proofs.Decode.{stateOf, decoded, seen}
 use Rattle.serial.proofs.Frame.{LineFits, Fits}
 use Rattle.serial.proofs.Set.{Fit, Memory, memory-same}
@@ -41,7 +42,7 @@ pub line-entry : {d : Dims} {p w : ℕ} (x v : ℕ) → p < d .processors → ho
     → Fits (LineFits d) p (home d w) (entry x INVALID w v)
 line-entry x v lp lh lw n = inr (record { processor = lp; slot = lh; held = n; tag = refl; word = lw; at-home = refl })
 
-pub line-range : (x w v : ℕ) → x < 4 → w < 256 → v < 4294967296 → InRange (entry x INVALID w v)
+pub line-range : (x w v : ℕ) → x < 4 → w < 256 → v < valueEnd → InRange (entry x INVALID w v)
 line-range x w v lx lw lv = record { state = lx; tag = omega arith; word = lw; «data» = lv }
 
 module _ {d : Dims} {s : Caches} (F : Fit d s) (p : ℕ) (lp : p < d .processors) (w : ℕ) (lw : w < d .words) (gone : seen d s .copy w p ≡ none) where
