@@ -1,6 +1,7 @@
 -- A turn of a run's loop, a refused step, and the end, over plain variables.
 use mathlib.Core.Path.{_≡_, refl, sym, _∙_, ap}
 use Prim.Native.Nat.{ℕ, _+_, _-_, _<_, _≤_}
+use native.Mathlib.Omega.{arith}
 use lib.ListN.{length, length-set}
 use borrow.Author.Tests.{eq-eqb, ne-eqb, lt-ltb, le-ltb}
 use Rattle.laws.specs.Until.{untilRange, until-end, until-stop, until-turn}
@@ -46,8 +47,8 @@ written-same c k cs i a e h =
 
 module _ (d : Dims) (x : Steps) (i n : ℕ) (c : Carried) (whole : ℕ × Carried)
     (inv : untilRange (stopsAt d x) (turn d x) i (n - i) c ≡ whole) where
-  pub ran-out : n ≤ i → halted d (record { taken = i; refusal = 0 }) c ≡ stopped d x n whole
-  ran-out h = rw (← inv, until-end (stopsAt d x) (turn d x) i n c h, le-ltb i n h)
+  pub ran-out : n ≤ i → i ≤ n → halted d (record { taken = n; refusal = accepted }) c ≡ stopped d x n whole
+  ran-out h l = let e : n ≡ i = omega arith in rw (← inv, until-end (stopsAt d x) (turn d x) i n c h, le-ltb i n h, e)
 
   -- the step there answered a, and left s
   module _ (h : i < n) (y : Step) (ey : y ≡ stepAt x i) (a : Answered) (s : Caches) (e : outcome a s ≡ takeStep d y (c .state)) where

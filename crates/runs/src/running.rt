@@ -84,7 +84,7 @@ pub(crate) fn run_sound(
         i += 1;
     }
     Halt {
-        taken: i,
+        taken: n,
         refusal: ACCEPTED,
     }
 }

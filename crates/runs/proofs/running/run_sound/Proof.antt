@@ -115,7 +115,7 @@ returns-2 : tie.Need-returns-2 Inv-loop μ-loop
 unfolding runSound
 returns-2 c = let x = c .before .before .before .before .before .before .before .before .before .before .before .before .before .before .args in
     ran-out (x .d) (steps (x .ops .now) (x .cores .now) (x .words .now) (x .values .now)) (c .before .loop .i) (length (x .ops .now)) _ _ (c .before .loop .inv .1)
-    (omega (arith, c .loop-test))
+    (omega (arith, c .loop-test)) (c .before .loop .inv .0)
 
 pub run-sound-spec : {M : Type 1} → statement M
 run-sound-spec =
