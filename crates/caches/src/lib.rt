@@ -223,7 +223,8 @@ pub fn write_back(memory: &mut Memory, e: Entry) -> u8
 
 // Of lines or of entries: a copy is written back if DIRTY, and made invalid. Answers how many WRITE that is.
 pub fn clear(memory: &mut Memory, copies: &mut Copies, p: usize, i: usize) -> u8
-    ensures { λ r. ⌜ (after memory ≡ writtenBack (before memory) (copyAt (before copies) p i)) × (after copies ≡ withCopy (before copies) p i noEntry) × (r ≡ writes (copyAt (before copies) p i)) ⌝ }
+    ensures { λ r. ⌜ (after memory ≡ writtenBack (before memory) (copyAt (before copies) p i)) ×
+        (after copies ≡ withCopy (before copies) p i noEntry) × (r ≡ writes (copyAt (before copies) p i)) ⌝ }
 {
     let j = place(p, i);
     let e = Entry::unpack(copies[j]);

@@ -145,7 +145,8 @@ fn drop_normal(
     i: usize,
 ) -> u8
     requires { ⌜ i ≡ findEntry (now entries) p (d .entries) NORMAL word ⌝ }
-    ensures { λ r. ⌜ ((l f : List ℕ) → counted r (caches (after memory) l (after entries) f) ≡ dropNormal d p word (caches (before memory) l (before entries) f)) ⌝ }
+    ensures { λ r. ⌜ ((l f : List ℕ) → counted r (caches (after memory) l (after entries) f) ≡
+        dropNormal d p word (caches (before memory) l (before entries) f)) ⌝ }
 {
     if i < d.entries {
         return caches::clear(memory, entries, p, i);

@@ -35,7 +35,8 @@ pub(crate) fn first_of(entries: &Copies, n: usize, p: usize, word: u8, q: usize)
 
 // Of lines or of entries: a copy that takes part.
 fn snoop_copy(memory: &mut Memory, copies: &mut Copies, cycle: u8, q: usize, i: usize)
-    ensures { λ r. ⌜ (after memory ≡ writtenBack (before memory) (copyAt (before copies) q i)) × (after copies ≡ withCopy (before copies) q i (snooped cycle (copyAt (before copies) q i))) ⌝ }
+    ensures { λ r. ⌜ (after memory ≡ writtenBack (before memory) (copyAt (before copies) q i)) ×
+        (after copies ≡ withCopy (before copies) q i (snooped cycle (copyAt (before copies) q i))) ⌝ }
 {
     let j = place(q, i);
     let e = Entry::unpack(copies[j]);
@@ -52,7 +53,8 @@ pub(crate) fn snoop_line(
     cycle: u8,
     q: usize,
 )
-    ensures { λ r. ⌜ ((e f : List ℕ) → caches (after memory) (after lines) e f ≡ snoopLine i word cycle q (caches (before memory) (before lines) e f)) ⌝ }
+    ensures { λ r. ⌜ ((e f : List ℕ) → caches (after memory) (after lines) e f ≡
+        snoopLine i word cycle q (caches (before memory) (before lines) e f)) ⌝ }
 {
     let j = place(q, i);
     let e = Entry::unpack(lines[j]);
@@ -71,7 +73,8 @@ pub(crate) fn snoop_entry(
     i: usize,
 )
     requires { ⌜ i ≡ liveEntry (now entries) q n word ⌝ }
-    ensures { λ r. ⌜ ((d : Dims) → d .entries ≡ n → (l f : List ℕ) → caches (after memory) l (after entries) f ≡ snoopEntry d word cycle q (caches (before memory) l (before entries) f)) ⌝ }
+    ensures { λ r. ⌜ ((d : Dims) → d .entries ≡ n → (l f : List ℕ) → caches (after memory) l (after entries) f ≡
+        snoopEntry d word cycle q (caches (before memory) l (before entries) f)) ⌝ }
 {
     if i < n {
         snoop_copy(memory, entries, cycle, q, i);
@@ -91,7 +94,8 @@ pub(crate) fn snoop_at(
     first: usize,
 )
     requires { ⌜ first ≡ firstOf n p word (now entries) q ⌝ }
-    ensures { λ r. ⌜ ((d : Dims) → d .entries ≡ n → (f : List ℕ) → caches (after memory) (after lines) (after entries) f ≡ snoopOne d i p word cycle q (caches (before memory) (before lines) (before entries) f)) ⌝ }
+    ensures { λ r. ⌜ ((d : Dims) → d .entries ≡ n → (f : List ℕ) → caches (after memory) (after lines) (after entries) f ≡
+        snoopOne d i p word cycle q (caches (before memory) (before lines) (before entries) f)) ⌝ }
 {
     if q == p {
         return;
@@ -202,7 +206,8 @@ fn roll_one(
     cycle: u8,
     q: usize,
 ) -> usize
-    ensures { λ r. ⌜ ((d : Dims) → d .entries ≡ n → (m l : List ℕ) → caches m l (after entries) (after flags) ≡ rollOne d p word cycle q (caches m l (before entries) (before flags))) ⌝ }
+    ensures { λ r. ⌜ ((d : Dims) → d .entries ≡ n → (m l : List ℕ) → caches m l (after entries) (after flags) ≡
+        rollOne d p word cycle q (caches m l (before entries) (before flags))) ⌝ }
     ensures { λ r. ⌜ r ≡ firstOf n p word (after entries) q ⌝ }
 {
     let first = first_of(entries, n, p, word, q);
@@ -230,7 +235,8 @@ pub(crate) fn roll_and_snoop_one(
     cycle: u8,
     q: usize,
 )
-    ensures { λ r. ⌜ ((d : Dims) → d .entries ≡ n → returned memory lines entries flags ≡ snoopOne d i p word cycle q (rollOne d p word cycle q (lent memory lines entries flags))) ⌝ }
+    ensures { λ r. ⌜ ((d : Dims) → d .entries ≡ n → returned memory lines entries flags ≡
+        snoopOne d i p word cycle q (rollOne d p word cycle q (lent memory lines entries flags))) ⌝ }
 {
     if q == p {
         return;

@@ -27,7 +27,8 @@ ghost use Rattle.entry.specs.declared.answer.Answer.the-variants.{Aborted};
 ghost use Rattle.entry.specs.Numbers.{VALID, RESERVED, DIRTY, LT};
 ghost use Rattle.entry.specs.Answer.{answered};
 ghost use Rattle.rules.specs.State.{caches, outcome, counted};
-ghost use Rattle.rules.specs.Transact.{dropLine, finish, requestOf, hit, openNormal, clearBackup, fillBackup, fill, request, missAt, miss, seek, transact};
+ghost use Rattle.rules.specs.Transact.{dropLine, finish, requestOf, hit, openNormal, clearBackup, fillBackup};
+ghost use Rattle.rules.specs.Transact.{fill, request, missAt, miss, seek, transact};
 ghost use Rattle.rules.specs.Lent.{before, after, lent, returned};
 
 fn request_of(op: u8) -> u8
@@ -67,7 +68,8 @@ fn aborted(c: Counts) -> Answered
 }
 
 fn drop_line(memory: &mut Memory, lines: &mut Copies, d: Dims, p: usize, word: u8) -> u8
-    ensures { λ r. ⌜ ((e f : List ℕ) → counted r (caches (after memory) (after lines) e f) ≡ dropLine d p word (caches (before memory) (before lines) e f)) ⌝ }
+    ensures { λ r. ⌜ ((e f : List ℕ) → counted r (caches (after memory) (after lines) e f) ≡
+        dropLine d p word (caches (before memory) (before lines) e f)) ⌝ }
 {
     let i = caches::home(d, word);
     let j = place(p, i);
@@ -132,7 +134,8 @@ fn hit(
 }
 
 fn open_normal(memory: &mut Memory, entries: &mut Copies, d: Dims, p: usize, i: usize) -> u8
-    ensures { λ r. ⌜ ((l f : List ℕ) → counted r (caches (after memory) l (after entries) f) ≡ openNormal d p i (caches (before memory) l (before entries) f)) ⌝ }
+    ensures { λ r. ⌜ ((l f : List ℕ) → counted r (caches (after memory) l (after entries) f) ≡
+        openNormal d p i (caches (before memory) l (before entries) f)) ⌝ }
 {
     let j = place(p, i);
     let e = Entry::unpack(entries[j]);
@@ -153,7 +156,8 @@ fn open_normal(memory: &mut Memory, entries: &mut Copies, d: Dims, p: usize, i: 
 }
 
 fn clear_backup(memory: &mut Memory, entries: &mut Copies, d: Dims, p: usize, b: usize) -> u8
-    ensures { λ r. ⌜ ((l f : List ℕ) → counted r (caches (after memory) l (after entries) f) ≡ clearBackup d p b (caches (before memory) l (before entries) f)) ⌝ }
+    ensures { λ r. ⌜ ((l f : List ℕ) → counted r (caches (after memory) l (after entries) f) ≡
+        clearBackup d p b (caches (before memory) l (before entries) f)) ⌝ }
 {
     if b < d.entries {
         return caches::clear(memory, entries, p, b);
@@ -182,7 +186,8 @@ fn fill(
     v: u32,
     w: u16,
 ) -> Answered
-    ensures { λ r. ⌜ ((m l f : List ℕ) → outcome r (caches m l (after entries) f) ≡ fill d op p i b word supplied v w (caches m l (before entries) f)) ⌝ }
+    ensures { λ r. ⌜ ((m l f : List ℕ) → outcome r (caches m l (after entries) f) ≡
+        fill d op p i b word supplied v w (caches m l (before entries) f)) ⌝ }
 {
     let state = filled_state(op);
     let tentative = Entry {

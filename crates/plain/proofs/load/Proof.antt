@@ -138,4 +138,27 @@ returns-4 c =
     (c .load-on2 .ensures)
 
 pub load-spec : {M : Type 1} → statement M
-load-spec = tie.close (tie.spec home-requires place-requires mul-unpack element-copy-out-unpack unpack-requires holds-requires hit-requires returns own-entry-requires load-on-requires returns-2 place-requires-2 mul-unpack-2 element-copy-out-unpack-2 unpack-requires-2 hit-requires-2 returns-3 rollback-requires find-normal-requires load-on-requires-2 returns-4)
+load-spec =
+    tie.close
+    (tie.spec
+    home-requires
+    place-requires
+    mul-unpack
+    element-copy-out-unpack
+    unpack-requires
+    holds-requires
+    hit-requires
+    returns
+    own-entry-requires
+    load-on-requires
+    returns-2
+    place-requires-2
+    mul-unpack-2
+    element-copy-out-unpack-2
+    unpack-requires-2
+    hit-requires-2
+    returns-3
+    rollback-requires
+    find-normal-requires
+    load-on-requires-2
+    returns-4)

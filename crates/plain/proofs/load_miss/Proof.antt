@@ -52,4 +52,18 @@ returns c =
     (rw (← requested .plain-request .ensures) (rw (placed .place .ensures, c .before .pack .ensures, c .asked .ensures)))
 
 pub load-miss-spec : {M : Type 1} → statement M
-load-miss-spec = tie.close (tie.spec home-requires clear-requires plain-request-requires mul-v element-copy-out-v place-requires pack-requires mul-lines element-write-lines cast-asked asked-requires returns)
+load-miss-spec =
+    tie.close
+    (tie.spec
+    home-requires
+    clear-requires
+    plain-request-requires
+    mul-v
+    element-copy-out-v
+    place-requires
+    pack-requires
+    mul-lines
+    element-write-lines
+    cast-asked
+    asked-requires
+    returns)

@@ -37,4 +37,14 @@ returns-2 c =
     rw (← missing .before .before .pre, le-ltb _ _ (missing .if1 .left)) (c .load-miss .ensures)
 
 pub load-on-spec : {M : Type 1} → statement M
-load-on-spec = tie.close (tie.spec place-requires mul-unpack element-copy-out-unpack unpack-requires hit-requires returns load-miss-requires returns-2)
+load-on-spec =
+    tie.close
+    (tie.spec
+    place-requires
+    mul-unpack
+    element-copy-out-unpack
+    unpack-requires
+    hit-requires
+    returns
+    load-miss-requires
+    returns-2)

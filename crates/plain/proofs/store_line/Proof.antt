@@ -86,4 +86,21 @@ returns-3 c =
     (c .store-miss .ensures)
 
 pub store-line-spec : {M : Type 1} → statement M
-store-line-spec = tie.close (tie.spec home-requires place-requires mul-unpack element-copy-out-unpack unpack-requires holds-requires store-through-requires returns pack-requires mul-lines element-write-lines quiet-requires returns-2 store-miss-requires returns-3)
+store-line-spec =
+    tie.close
+    (tie.spec
+    home-requires
+    place-requires
+    mul-unpack
+    element-copy-out-unpack
+    unpack-requires
+    holds-requires
+    store-through-requires
+    returns
+    pack-requires
+    mul-lines
+    element-write-lines
+    quiet-requires
+    returns-2
+    store-miss-requires
+    returns-3)

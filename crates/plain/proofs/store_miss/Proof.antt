@@ -49,4 +49,17 @@ returns c =
     (rw (← requested .plain-request .ensures) (rw (placed .place .ensures, c .before .pack .ensures, c .asked .ensures)))
 
 pub store-miss-spec : {M : Type 1} → statement M
-store-miss-spec = tie.close (tie.spec home-requires clear-requires plain-request-requires place-requires pack-requires mul-lines element-write-lines cast-all add-all asked-requires returns)
+store-miss-spec =
+    tie.close
+    (tie.spec
+    home-requires
+    clear-requires
+    plain-request-requires
+    place-requires
+    pack-requires
+    mul-lines
+    element-write-lines
+    cast-all
+    add-all
+    asked-requires
+    returns)

@@ -38,4 +38,16 @@ returns c =
     (rw (← placed .before .home .ensures, placed .place .ensures, c .before .pack .ensures, c .asked .ensures))
 
 pub store-through-spec : {M : Type 1} → statement M
-store-through-spec = tie.close (tie.spec plain-request-requires mul-memory element-write-memory home-requires place-requires pack-requires mul-lines element-write-lines asked-requires returns)
+store-through-spec =
+    tie.close
+    (tie.spec
+    plain-request-requires
+    mul-memory
+    element-write-memory
+    home-requires
+    place-requires
+    pack-requires
+    mul-lines
+    element-write-lines
+    asked-requires
+    returns)

@@ -37,4 +37,13 @@ returns c =
     )
 
 pub copies-ok-spec : {M : Type 1} → statement M
-copies-ok-spec = tie.close (tie.spec mark-all-requires mark-all-requires-2 own-all-requires own-all-requires-2 lines-ok-requires entries-ok-requires returns)
+copies-ok-spec =
+    tie.close
+    (tie.spec
+    mark-all-requires
+    mark-all-requires-2
+    own-all-requires
+    own-all-requires-2
+    lines-ok-requires
+    entries-ok-requires
+    returns)

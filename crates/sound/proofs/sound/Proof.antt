@@ -33,4 +33,12 @@ returns c =
     ))
 
 pub sound-spec : {M : Type 1} → statement M
-sound-spec = tie.close (tie.spec lengths-ok-requires dims-refusal-requires flags-ok-requires memory-ok-requires copies-ok-requires returns)
+sound-spec =
+    tie.close
+    (tie.spec
+    lengths-ok-requires
+    dims-refusal-requires
+    flags-ok-requires
+    memory-ok-requires
+    copies-ok-requires
+    returns)

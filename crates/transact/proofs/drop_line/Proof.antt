@@ -49,4 +49,15 @@ returns-2 c =
     λ e f. rw (← placed .before .home .ensures, ← (rw u at (c .before .holds .ensures)), c .if1 .left)
 
 pub drop-line-spec : {M : Type 1} → statement M
-drop-line-spec = tie.close (tie.spec home-requires place-requires mul-unpack element-copy-out-unpack unpack-requires holds-requires clear-requires returns returns-2)
+drop-line-spec =
+    tie.close
+    (tie.spec
+    home-requires
+    place-requires
+    mul-unpack
+    element-copy-out-unpack
+    unpack-requires
+    holds-requires
+    clear-requires
+    returns
+    returns-2)

@@ -47,4 +47,16 @@ returns c =
     (c .finish .ensures _ _ _)
 
 pub fill-spec : {M : Type 1} → statement M
-fill-spec = tie.close (tie.spec filled-state-requires place-requires pack-requires mul-entries element-write-entries fill-backup-requires request-of-requires asked-requires finish-requires returns)
+fill-spec =
+    tie.close
+    (tie.spec
+    filled-state-requires
+    place-requires
+    pack-requires
+    mul-entries
+    element-write-entries
+    fill-backup-requires
+    request-of-requires
+    asked-requires
+    finish-requires
+    returns)

@@ -25,4 +25,6 @@ unfolding fillBackup
 returns-2 c = rw (le-ltb _ _ (c .if1 .left))
 
 pub fill-backup-spec : {M : Type 1} → statement M
-fill-backup-spec = tie.close (tie.spec place-requires pack-requires mul-entries element-write-entries returns returns-2)
+fill-backup-spec =
+    tie.close
+    (tie.spec place-requires pack-requires mul-entries element-write-entries returns returns-2)

@@ -43,4 +43,16 @@ returns-2 c =
     λ m l f. rw (ne-eqb _ _ (c .if1 .left), u)
 
 pub finish-spec : {M : Type 1} → statement M
-finish-spec = tie.close (tie.spec place-requires mul-unpack element-copy-out-unpack unpack-requires stored-requires pack-requires mul-entries element-write-entries returns returns-2)
+finish-spec =
+    tie.close
+    (tie.spec
+    place-requires
+    mul-unpack
+    element-copy-out-unpack
+    unpack-requires
+    stored-requires
+    pack-requires
+    mul-entries
+    element-write-entries
+    returns
+    returns-2)

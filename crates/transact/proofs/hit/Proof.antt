@@ -129,4 +129,29 @@ returns-4 c =
     (rw (← s, ← k, ← j) (c .finish3 .ensures _ _ _))
 
 pub hit-spec : {M : Type 1} → statement M
-hit-spec = tie.close (tie.spec add-w quiet-requires finish-requires returns place-requires mul-unpack element-copy-out-unpack unpack-requires quiet-requires-2 finish-requires-2 returns-2 request-requires rollback-requires asked-requires aborted-requires returns-3 with-state-requires pack-requires mul-entries element-write-entries asked-requires-2 finish-requires-3 returns-4)
+hit-spec =
+    tie.close
+    (tie.spec
+    add-w
+    quiet-requires
+    finish-requires
+    returns
+    place-requires
+    mul-unpack
+    element-copy-out-unpack
+    unpack-requires
+    quiet-requires-2
+    finish-requires-2
+    returns-2
+    request-requires
+    rollback-requires
+    asked-requires
+    aborted-requires
+    returns-3
+    with-state-requires
+    pack-requires
+    mul-entries
+    element-write-entries
+    asked-requires-2
+    finish-requires-3
+    returns-4)

@@ -40,4 +40,13 @@ returns-2 c =
     )
 
 pub miss-spec : {M : Type 1} → statement M
-miss-spec = tie.close (tie.spec free-slot-requires miss-at-requires returns rollback-requires quiet-requires aborted-requires returns-2)
+miss-spec =
+    tie.close
+    (tie.spec
+    free-slot-requires
+    miss-at-requires
+    returns
+    rollback-requires
+    quiet-requires
+    aborted-requires
+    returns-2)

@@ -37,4 +37,15 @@ returns c =
     (rw (← free .free-slot .ensures) (rw (← backed .clear-backup .ensures _ _) (c .request .ensures)))
 
 pub miss-at-spec : {M : Type 1} → statement M
-miss-at-spec = tie.close (tie.spec clear-requires free-slot-requires clear-backup-requires cast-w add-w cast-w-2 add-w-2 request-requires returns)
+miss-at-spec =
+    tie.close
+    (tie.spec
+    clear-requires
+    free-slot-requires
+    clear-backup-requires
+    cast-w
+    add-w
+    cast-w-2
+    add-w-2
+    request-requires
+    returns)

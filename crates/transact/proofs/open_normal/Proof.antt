@@ -123,4 +123,32 @@ returns-2 c =
     )
 
 pub open-normal-spec : {M : Type 1} → statement M
-open-normal-spec = tie.close (tie.spec place-requires mul-unpack element-copy-out-unpack unpack-requires with-tag-requires free-slot-requires place-requires-2 mul-unpack-2 element-copy-out-unpack-2 unpack-requires-2 with-tag-requires-2 pack-requires mul-entries element-write-entries pack-requires-2 mul-entries-2 element-write-entries-2 write-back-requires returns written-state-requires with-state-requires pack-requires-3 mul-entries-3 element-write-entries-3 write-back-requires-2 returns-2)
+open-normal-spec =
+    tie.close
+    (tie.spec
+    place-requires
+    mul-unpack
+    element-copy-out-unpack
+    unpack-requires
+    with-tag-requires
+    free-slot-requires
+    place-requires-2
+    mul-unpack-2
+    element-copy-out-unpack-2
+    unpack-requires-2
+    with-tag-requires-2
+    pack-requires
+    mul-entries
+    element-write-entries
+    pack-requires-2
+    mul-entries-2
+    element-write-entries-2
+    write-back-requires
+    returns
+    written-state-requires
+    with-state-requires
+    pack-requires-3
+    mul-entries-3
+    element-write-entries-3
+    write-back-requires-2
+    returns-2)

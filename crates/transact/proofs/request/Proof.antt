@@ -62,4 +62,16 @@ returns-2 c =
     rw (← asked .before .before .before .before .before .request-of .ensures, ← answer .0, asked .if1 .left) (rw (← k) (c .fill .ensures _ _ _))
 
 pub request-spec : {M : Type 1} → statement M
-request-spec = tie.close (tie.spec request-of-requires request-requires rollback-requires asked-requires aborted-requires returns mul-supplied element-copy-out-supplied fill-requires returns-2)
+request-spec =
+    tie.close
+    (tie.spec
+    request-of-requires
+    request-requires
+    rollback-requires
+    asked-requires
+    aborted-requires
+    returns
+    mul-supplied
+    element-copy-out-supplied
+    fill-requires
+    returns-2)

@@ -36,4 +36,15 @@ returns-2 c =
     rw (ne-eqb _ _ (dropped .before .before .before .if1 .left), ← dropped .drop-line .ensures _ _) (c .seek .ensures)
 
 pub transact-spec : {M : Type 1} → statement M
-transact-spec = tie.close (tie.spec element-write-flags add-status element-copy-out-if1 quiet-requires aborted-requires returns drop-line-requires seek-requires returns-2)
+transact-spec =
+    tie.close
+    (tie.spec
+    element-write-flags
+    add-status
+    element-copy-out-if1
+    quiet-requires
+    aborted-requires
+    returns
+    drop-line-requires
+    seek-requires
+    returns-2)

@@ -22,4 +22,5 @@ returns c =
     rw (c .before .before .is-clean .ensures, c .before .is-owned .ensures, c .is-only .ensures) (simp and-assoc)
 
 pub copy-ok-spec : {M : Type 1} → statement M
-copy-ok-spec = tie.close (tie.spec cast-word is-clean-requires is-owned-requires is-only-requires returns)
+copy-ok-spec =
+    tie.close (tie.spec cast-word is-clean-requires is-owned-requires is-only-requires returns)

@@ -43,4 +43,15 @@ returns c =
     )
 
 pub dims-refusal-spec : {M : Type 1} → statement M
-dims-refusal-spec = tie.close (tie.spec in-range-requires in-range-requires-2 is-power-requires in-range-requires-3 unless-requires unless-requires-2 unless-requires-3 unless-requires-4 returns)
+dims-refusal-spec =
+    tie.close
+    (tie.spec
+    in-range-requires
+    in-range-requires-2
+    is-power-requires
+    in-range-requires-3
+    unless-requires
+    unless-requires-2
+    unless-requires-3
+    unless-requires-4
+    returns)

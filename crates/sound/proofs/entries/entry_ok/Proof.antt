@@ -42,4 +42,13 @@ returns-2 c =
     (simp and-assoc)
 
 pub entry-ok-spec : {M : Type 1} → statement M
-entry-ok-spec = tie.close (tie.spec returns unpack-requires pack-requires flags-up-requires backup-ok-requires copy-ok-requires returns-2)
+entry-ok-spec =
+    tie.close
+    (tie.spec
+    returns
+    unpack-requires
+    pack-requires
+    flags-up-requires
+    backup-ok-requires
+    copy-ok-requires
+    returns-2)

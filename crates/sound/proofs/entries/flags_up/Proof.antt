@@ -22,4 +22,6 @@ unfolding flagsUp
 returns-2 c = rw (eq-eqb _ _ (c .before .before .if1 .left))
 
 pub flags-up-spec : {M : Type 1} → statement M
-flags-up-spec = tie.close (tie.spec returns add-status element-copy-out-result element-copy-out-result-2 returns-2)
+flags-up-spec =
+    tie.close
+    (tie.spec returns add-status element-copy-out-result element-copy-out-result-2 returns-2)

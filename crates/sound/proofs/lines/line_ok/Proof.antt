@@ -38,4 +38,6 @@ returns-2 c =
     (simp and-assoc)
 
 pub line-ok-spec : {M : Type 1} → statement M
-line-ok-spec = tie.close (tie.spec returns unpack-requires pack-requires is-home-requires copy-ok-requires returns-2)
+line-ok-spec =
+    tie.close
+    (tie.spec returns unpack-requires pack-requires is-home-requires copy-ok-requires returns-2)
