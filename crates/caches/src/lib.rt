@@ -12,6 +12,7 @@ use rules::Copies;
 use rules::Dims;
 use rules::Flags;
 use rules::Memory;
+use rules::place;
 ghost use mathlib.Core.Path.{_≡_};
 ghost use mathlib.Core.Logic.{_≢_};
 ghost use mathlib.Core.Bool.{false};
@@ -125,7 +126,7 @@ pub fn own_entry(entries: &Copies, p: usize, n: usize, word: u8) -> Own
             at: n,
         };
     }
-    let at = p % 8 * 64 + i % 64;
+    let at = place(p, i);
     let tag = entry::packed::tag_of(entries[at]);
     if tag == TENTATIVE {
         return Own {
@@ -222,9 +223,10 @@ pub fn write_back(memory: &mut Memory, e: Entry) -> u8
 
 // Of lines or of entries: a copy is written back if DIRTY, and made invalid. Answers how many WRITE that is.
 pub fn clear(memory: &mut Memory, copies: &mut Copies, p: usize, i: usize) -> u8
-    ensures { λ r. ⌜ (after memory ≡ writtenBack (before memory) (copyAt (before copies) p i)) × (after copies ≡ withCopy (before copies) p i noEntry) × (r ≡ writes (copyAt (before copies) p i)) ⌝ }
+    ensures { λ r. ⌜ (after memory ≡ writtenBack (before memory) (copyAt (before copies) p i)) ×
+        (after copies ≡ withCopy (before copies) p i noEntry) × (r ≡ writes (copyAt (before copies) p i)) ⌝ }
 {
-    let j = p % 8 * 64 + i % 64;
+    let j = place(p, i);
     let e = Entry::unpack(copies[j]);
     copies[j] = 0;
     write_back(memory, e)

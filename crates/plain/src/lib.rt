@@ -16,12 +16,13 @@ use rules::Copies;
 use rules::Dims;
 use rules::Flags;
 use rules::Memory;
+use rules::place;
 ghost use mathlib.Core.Path.{_≡_};
 ghost use mathlib.Core.List.{List};
-ghost use Prim.Native.Nat.{ℕ, _+_};
-ghost use Rattle.entry.specs.declared.answer.Answer.the-variants.{Value, Done};
-ghost use Rattle.entry.specs.Numbers.{NORMAL, READ, RFO, WRITE};
-ghost use Rattle.entry.specs.Answer.{answered, asked, quiet, noCycles};
+ghost use Prim.Native.Nat.{ℕ};
+ghost use Rattle.entry.specs.declared.answer.Answer.the-variants.{Value};
+ghost use Rattle.entry.specs.Numbers.{NORMAL};
+ghost use Rattle.entry.specs.Answer.{answered, noCycles};
 ghost use Rattle.rules.specs.State.{caches, outcome, counted};
 ghost use Rattle.rules.specs.Own.{findEntry};
 ghost use Rattle.rules.specs.Load.{loadMiss, loadOn, load};
@@ -32,86 +33,9 @@ ghost use Rattle.rules.specs.Lent.{before, after, lent, returned};
 fn hit(v: u32) -> Answered
     ensures { λ r. ⌜ r ≡ answered (Value v) noCycles ⌝ }
 {
-    let c = Counts {
-        read: 0,
-        rfo: 0,
-        write: 0,
-        t_read: 0,
-        t_rfo: 0,
-        busy: 0,
-    };
     Answered {
         answer: Answer::Value(v),
-        counts: c,
-    }
-}
-
-fn loaded(v: u32, w: u8) -> Answered
-    ensures { λ r. ⌜ r ≡ answered (Value v) (asked READ w 0) ⌝ }
-{
-    let c = Counts {
-        read: 1,
-        rfo: 0,
-        write: w as u32,
-        t_read: 0,
-        t_rfo: 0,
-        busy: 0,
-    };
-    Answered {
-        answer: Answer::Value(v),
-        counts: c,
-    }
-}
-
-fn stored(w: u8) -> Answered
-    ensures { λ r. ⌜ r ≡ answered Done (quiet w) ⌝ }
-{
-    let c = Counts {
-        read: 0,
-        rfo: 0,
-        write: w as u32,
-        t_read: 0,
-        t_rfo: 0,
-        busy: 0,
-    };
-    Answered {
-        answer: Answer::Done,
-        counts: c,
-    }
-}
-
-fn stored_through(w: u8) -> Answered
-    ensures { λ r. ⌜ r ≡ answered Done (asked WRITE w 0) ⌝ }
-{
-    let c = Counts {
-        read: 0,
-        rfo: 0,
-        write: (w as u32) + 1,
-        t_read: 0,
-        t_rfo: 0,
-        busy: 0,
-    };
-    Answered {
-        answer: Answer::Done,
-        counts: c,
-    }
-}
-
-fn stored_alone(w1: u8, w2: u8) -> Answered
-    ensures { λ r. ⌜ r ≡ answered Done (asked RFO (w1 + w2) 0) ⌝ }
-{
-    let w = (w1 as u32) + (w2 as u32);
-    let c = Counts {
-        read: 0,
-        rfo: 1,
-        write: w,
-        t_read: 0,
-        t_rfo: 0,
-        busy: 0,
-    };
-    Answered {
-        answer: Answer::Done,
-        counts: c,
+        counts: Counts::quiet(0),
     }
 }
 
@@ -137,9 +61,12 @@ fn load_miss(
         word: word,
         data: v,
     };
-    let j = p % 8 * 64 + i % 64;
+    let j = place(p, i);
     lines[j] = e.pack();
-    loaded(v, w)
+    Answered {
+        answer: Answer::Value(v),
+        counts: Counts::asked(READ, w as u16, 0),
+    }
 }
 
 // The NORMAL entry is looked for already: it is i.
@@ -157,7 +84,7 @@ fn load_on(
     ensures { λ r. ⌜ outcome r (returned memory lines entries flags) ≡ loadOn d p word (lent memory lines entries flags) ⌝ }
 {
     if i < d.entries {
-        let j = p % 8 * 64 + i % 64;
+        let j = place(p, i);
         let e = Entry::unpack(entries[j]);
         return hit(e.data);
     }
@@ -176,7 +103,7 @@ pub fn load(
     ensures { λ r. ⌜ outcome r (returned memory lines entries flags) ≡ load d p word (lent memory lines entries flags) ⌝ }
 {
     let h = caches::home(d, word);
-    let j = p % 8 * 64 + h % 64;
+    let j = place(p, h);
     let line = Entry::unpack(lines[j]);
     if caches::holds(line, word) {
         return hit(line.data);
@@ -186,7 +113,7 @@ pub fn load(
     if !own.tentative {
         return load_on(memory, lines, entries, flags, d, p, word, i);
     }
-    let k = p % 8 * 64 + i % 64;
+    let k = place(p, i);
     let tentative = Entry::unpack(entries[k]);
     if tentative.state == VALID {
         return hit(tentative.data);
@@ -218,7 +145,8 @@ fn drop_normal(
     i: usize,
 ) -> u8
     requires { ⌜ i ≡ findEntry (now entries) p (d .entries) NORMAL word ⌝ }
-    ensures { λ r. ⌜ ((l f : List ℕ) → counted r (caches (after memory) l (after entries) f) ≡ dropNormal d p word (caches (before memory) l (before entries) f)) ⌝ }
+    ensures { λ r. ⌜ ((l f : List ℕ) → counted r (caches (after memory) l (after entries) f) ≡
+        dropNormal d p word (caches (before memory) l (before entries) f)) ⌝ }
 {
     if i < d.entries {
         return caches::clear(memory, entries, p, i);
@@ -249,9 +177,12 @@ fn store_through(
         data: v,
     };
     let i = caches::home(d, word);
-    let j = p % 8 * 64 + i % 64;
+    let j = place(p, i);
     lines[j] = e.pack();
-    stored_through(w)
+    Answered {
+        answer: Answer::Done,
+        counts: Counts::asked(WRITE, w as u16, 0),
+    }
 }
 
 fn store_miss(
@@ -276,9 +207,13 @@ fn store_miss(
         word: word,
         data: v,
     };
-    let j = p % 8 * 64 + i % 64;
+    let j = place(p, i);
     lines[j] = e.pack();
-    stored_alone(w, w2)
+    let all = (w as u16) + (w2 as u16);
+    Answered {
+        answer: Answer::Done,
+        counts: Counts::asked(RFO, all, 0),
+    }
 }
 
 fn store_line(
@@ -295,7 +230,7 @@ fn store_line(
     ensures { λ r. ⌜ outcome r (returned memory lines entries flags) ≡ storeLine d p word v (counted w (lent memory lines entries flags)) ⌝ }
 {
     let i = caches::home(d, word);
-    let j = p % 8 * 64 + i % 64;
+    let j = place(p, i);
     let line = Entry::unpack(lines[j]);
     if caches::holds(line, word) {
         if line.state == VALID {
@@ -308,7 +243,10 @@ fn store_line(
             data: v,
         };
         lines[j] = e.pack();
-        return stored(w);
+        return Answered {
+            answer: Answer::Done,
+            counts: Counts::quiet(w as u16),
+        };
     }
     store_miss(memory, lines, entries, flags, d, p, word, v, w)
 }

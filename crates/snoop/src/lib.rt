@@ -71,7 +71,8 @@ fn snoop_noted(
 )
     requires { ⌜ d .processors ≤ 8 ⌝ }
     requires { ⌜ noted d p word (now firsts) (now entries) (d .processors) ⌝ }
-    ensures { λ r. ⌜ ((f : List ℕ) → caches (after memory) (after lines) (after entries) f ≡ snoop d p word cycle (caches (before memory) (before lines) (before entries) f)) ⌝ }
+    ensures { λ r. ⌜ ((f : List ℕ) → caches (after memory) (after lines) (after entries) f ≡
+        snoop d p word cycle (caches (before memory) (before lines) (before entries) f)) ⌝ }
 {
     let i = caches::home(d, word);
     let n = d.processors;
@@ -139,7 +140,9 @@ pub fn request(
     cycle: u8,
 ) -> bool
     ensures { λ r. ⌜ r ≡ refuses d p word cycle (before entries) ⌝ }
-    ensures { λ r. ⌜ ((f : List ℕ) → caches (after memory) (after lines) (after entries) f ≡ pick r (caches (before memory) (before lines) (before entries) f) (snoop d p word cycle (caches (before memory) (before lines) (before entries) f))) ⌝ }
+    ensures { λ r. ⌜ ((f : List ℕ) → caches (after memory) (after lines) (after entries) f ≡
+        pick r (caches (before memory) (before lines) (before entries) f)
+        (snoop d p word cycle (caches (before memory) (before lines) (before entries) f))) ⌝ }
 {
     let mut firsts: Firsts = [0; 8];
     let q = first_opposing(entries, &mut firsts, d, p, word, cycle);

@@ -23,7 +23,8 @@ fn snoop_one(
     cycle: u8,
     q: usize,
 )
-    ensures { λ r. ⌜ ((d : Dims) → d .entries ≡ n → (f : List ℕ) → caches (after memory) (after lines) (after entries) f ≡ snoopOne d i p word cycle q (caches (before memory) (before lines) (before entries) f)) ⌝ }
+    ensures { λ r. ⌜ ((d : Dims) → d .entries ≡ n → (f : List ℕ) → caches (after memory) (after lines) (after entries) f ≡
+        snoopOne d i p word cycle q (caches (before memory) (before lines) (before entries) f)) ⌝ }
 {
     if q == p {
         return;
@@ -42,7 +43,8 @@ pub(crate) fn snoop(
     word: u8,
     cycle: u8,
 )
-    ensures { λ r. ⌜ ((f : List ℕ) → caches (after memory) (after lines) (after entries) f ≡ snoop d p word cycle (caches (before memory) (before lines) (before entries) f)) ⌝ }
+    ensures { λ r. ⌜ ((f : List ℕ) → caches (after memory) (after lines) (after entries) f ≡
+        snoop d p word cycle (caches (before memory) (before lines) (before entries) f)) ⌝ }
 {
     let i = caches::home(d, word);
     let n = d.processors;
@@ -63,7 +65,8 @@ fn roll_one(
     cycle: u8,
     q: usize,
 )
-    ensures { λ r. ⌜ ((d : Dims) → d .entries ≡ n → (m l : List ℕ) → caches m l (after entries) (after flags) ≡ rollOne d p word cycle q (caches m l (before entries) (before flags))) ⌝ }
+    ensures { λ r. ⌜ ((d : Dims) → d .entries ≡ n → (m l : List ℕ) → caches m l (after entries) (after flags) ≡
+        rollOne d p word cycle q (caches m l (before entries) (before flags))) ⌝ }
 {
     if other::other_opposing(entries, n, p, word, cycle, q) {
         caches::rollback(entries, flags, q, n);
@@ -71,7 +74,8 @@ fn roll_one(
 }
 
 fn roll_others(entries: &mut Copies, flags: &mut Flags, d: Dims, p: usize, word: u8, cycle: u8)
-    ensures { λ r. ⌜ ((m l : List ℕ) → caches m l (after entries) (after flags) ≡ rollOthers d p word cycle (caches m l (before entries) (before flags))) ⌝ }
+    ensures { λ r. ⌜ ((m l : List ℕ) → caches m l (after entries) (after flags) ≡
+        rollOthers d p word cycle (caches m l (before entries) (before flags))) ⌝ }
 {
     let n = d.processors;
     let mut q: usize = 0;

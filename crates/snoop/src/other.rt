@@ -11,13 +11,12 @@ use entry::numbers::WRITE;
 use rules::Copies;
 use rules::Flags;
 use rules::Memory;
+use rules::place;
 ghost use mathlib.Core.Path.{_≡_};
 ghost use mathlib.Core.List.{List};
 ghost use Prim.Native.Nat.{ℕ, _<_};
-ghost use lib.Dec.{leb};
 ghost use Rattle.laws.specs.Choice.{either};
-ghost use Rattle.entry.specs.Numbers.{RESERVED};
-ghost use Rattle.entry.specs.Entry.{takes, snooped};
+ghost use Rattle.entry.specs.Entry.{reservedOrDirty, takes, snooped};
 ghost use Rattle.rules.specs.declared.Dims.{Dims};
 ghost use Rattle.rules.specs.State.{caches, copyAt, withCopy};
 ghost use Rattle.rules.specs.Own.{liveEntry};
@@ -36,9 +35,10 @@ pub(crate) fn first_of(entries: &Copies, n: usize, p: usize, word: u8, q: usize)
 
 // Of lines or of entries: a copy that takes part.
 fn snoop_copy(memory: &mut Memory, copies: &mut Copies, cycle: u8, q: usize, i: usize)
-    ensures { λ r. ⌜ (after memory ≡ writtenBack (before memory) (copyAt (before copies) q i)) × (after copies ≡ withCopy (before copies) q i (snooped cycle (copyAt (before copies) q i))) ⌝ }
+    ensures { λ r. ⌜ (after memory ≡ writtenBack (before memory) (copyAt (before copies) q i)) ×
+        (after copies ≡ withCopy (before copies) q i (snooped cycle (copyAt (before copies) q i))) ⌝ }
 {
-    let j = q % 8 * 64 + i % 64;
+    let j = place(q, i);
     let e = Entry::unpack(copies[j]);
     let w = caches::write_back(memory, e);
     let f = e.snooped(cycle);
@@ -53,9 +53,10 @@ pub(crate) fn snoop_line(
     cycle: u8,
     q: usize,
 )
-    ensures { λ r. ⌜ ((e f : List ℕ) → caches (after memory) (after lines) e f ≡ snoopLine i word cycle q (caches (before memory) (before lines) e f)) ⌝ }
+    ensures { λ r. ⌜ ((e f : List ℕ) → caches (after memory) (after lines) e f ≡
+        snoopLine i word cycle q (caches (before memory) (before lines) e f)) ⌝ }
 {
-    let j = q % 8 * 64 + i % 64;
+    let j = place(q, i);
     let e = Entry::unpack(lines[j]);
     if caches::holds(e, word) {
         snoop_copy(memory, lines, cycle, q, i);
@@ -72,7 +73,8 @@ pub(crate) fn snoop_entry(
     i: usize,
 )
     requires { ⌜ i ≡ liveEntry (now entries) q n word ⌝ }
-    ensures { λ r. ⌜ ((d : Dims) → d .entries ≡ n → (l f : List ℕ) → caches (after memory) l (after entries) f ≡ snoopEntry d word cycle q (caches (before memory) l (before entries) f)) ⌝ }
+    ensures { λ r. ⌜ ((d : Dims) → d .entries ≡ n → (l f : List ℕ) → caches (after memory) l (after entries) f ≡
+        snoopEntry d word cycle q (caches (before memory) l (before entries) f)) ⌝ }
 {
     if i < n {
         snoop_copy(memory, entries, cycle, q, i);
@@ -92,7 +94,8 @@ pub(crate) fn snoop_at(
     first: usize,
 )
     requires { ⌜ first ≡ firstOf n p word (now entries) q ⌝ }
-    ensures { λ r. ⌜ ((d : Dims) → d .entries ≡ n → (f : List ℕ) → caches (after memory) (after lines) (after entries) f ≡ snoopOne d i p word cycle q (caches (before memory) (before lines) (before entries) f)) ⌝ }
+    ensures { λ r. ⌜ ((d : Dims) → d .entries ≡ n → (f : List ℕ) → caches (after memory) (after lines) (after entries) f ≡
+        snoopOne d i p word cycle q (caches (before memory) (before lines) (before entries) f)) ⌝ }
 {
     if q == p {
         return;
@@ -117,7 +120,7 @@ fn taking(cycle: u8) -> bool
 
 // Whether a tentative copy of the word stands against the cycle.
 fn against(e: Entry, cycle: u8) -> bool
-    ensures { λ r. ⌜ r ≡ either (takes cycle) (leb RESERVED (e .state)) ⌝ }
+    ensures { λ r. ⌜ r ≡ either (takes cycle) (reservedOrDirty (e .state)) ⌝ }
 {
     if taking(cycle) {
         return true;
@@ -132,7 +135,7 @@ fn opposing(entries: &Copies, n: usize, word: u8, cycle: u8, q: usize) -> bool
     if i >= n {
         return false;
     }
-    let j = q % 8 * 64 + i % 64;
+    let j = place(q, i);
     let e = Entry::unpack(entries[j]);
     against(e, cycle)
 }
@@ -167,7 +170,7 @@ fn opposing_at(
     requires { ⌜ first < n ⌝ }
     ensures { λ r. ⌜ ((d : Dims) → d .entries ≡ n → r ≡ otherOpposes d p word cycle (before entries) q) ⌝ }
 {
-    let j = q % 8 * 64 + first % 64;
+    let j = place(q, first);
     let e = Entry::unpack(entries[j]);
     if e.tag != TENTATIVE {
         return other_opposing(entries, n, p, word, cycle, q);
@@ -203,7 +206,8 @@ fn roll_one(
     cycle: u8,
     q: usize,
 ) -> usize
-    ensures { λ r. ⌜ ((d : Dims) → d .entries ≡ n → (m l : List ℕ) → caches m l (after entries) (after flags) ≡ rollOne d p word cycle q (caches m l (before entries) (before flags))) ⌝ }
+    ensures { λ r. ⌜ ((d : Dims) → d .entries ≡ n → (m l : List ℕ) → caches m l (after entries) (after flags) ≡
+        rollOne d p word cycle q (caches m l (before entries) (before flags))) ⌝ }
     ensures { λ r. ⌜ r ≡ firstOf n p word (after entries) q ⌝ }
 {
     let first = first_of(entries, n, p, word, q);
@@ -231,7 +235,8 @@ pub(crate) fn roll_and_snoop_one(
     cycle: u8,
     q: usize,
 )
-    ensures { λ r. ⌜ ((d : Dims) → d .entries ≡ n → returned memory lines entries flags ≡ snoopOne d i p word cycle q (rollOne d p word cycle q (lent memory lines entries flags))) ⌝ }
+    ensures { λ r. ⌜ ((d : Dims) → d .entries ≡ n → returned memory lines entries flags ≡
+        snoopOne d i p word cycle q (rollOne d p word cycle q (lent memory lines entries flags))) ⌝ }
 {
     if q == p {
         return;

@@ -14,16 +14,7 @@ ghost use Rattle.rules.specs.Lent.{before, lent};
 pub(crate) fn lengths_ok(memory: &[u32], lines: &[u64], entries: &[u64], flags: &[u8]) -> bool
     ensures { λ r. ⌜ r ≡ lengthsOk (lent memory lines entries flags) ⌝ }
 {
-    if memory.len() != 256 {
-        return false;
-    }
-    if lines.len() != 512 {
-        return false;
-    }
-    if entries.len() != 512 {
-        return false;
-    }
-    flags.len() == 16
+    (memory.len() == 256) & (lines.len() == 512) & (entries.len() == 512) & (flags.len() == 16)
 }
 
 pub(crate) fn flags_ok(flags: &Flags, processors: usize) -> bool

@@ -24,16 +24,7 @@ pub(crate) fn copy_ok(
     ensures { λ r. ⌜ r ≡ copyOk (before memory) (before marks) (before owners) words kind e j ⌝ }
 {
     let word = e.word as usize;
-    if word >= words {
-        return false;
-    }
-    if !is_clean(memory, e) {
-        return false;
-    }
-    if !is_owned(owners, e, j) {
-        return false;
-    }
-    is_only(marks, kind, e, j)
+    (word < words) & is_clean(memory, e) & is_owned(owners, e, j) & is_only(marks, kind, e, j)
 }
 
 fn is_clean(memory: &Memory, e: Entry) -> bool

@@ -51,29 +51,15 @@ fn entry_ok(
     if x == 0 {
         return true;
     }
-    if j / 64 >= d.processors {
-        return false;
-    }
-    if j % 64 >= d.entries {
-        return false;
-    }
     let e = Entry::unpack(x);
-    if e.pack() != x {
-        return false;
-    }
-    if e.tag == INVALID {
-        return false;
-    }
-    if e.state == INVALID {
-        return false;
-    }
-    if !flags_up(flags, e, j) {
-        return false;
-    }
-    if !backup_ok(marks, entries, e, j) {
-        return false;
-    }
-    copy_ok(memory, marks, owners, d.words, OF_ENTRIES, e, j)
+    (j / 64 < d.processors)
+        & (j % 64 < d.entries)
+        & (e.pack() == x)
+        & (e.tag != INVALID)
+        & (e.state != INVALID)
+        & flags_up(flags, e, j)
+        & backup_ok(marks, entries, e, j)
+        & copy_ok(memory, marks, owners, d.words, OF_ENTRIES, e, j)
 }
 
 fn flags_up(flags: &Flags, e: Entry, j: usize) -> bool
@@ -83,11 +69,8 @@ fn flags_up(flags: &Flags, e: Entry, j: usize) -> bool
         return true;
     }
     let active = j / 64 % 8;
-    if flags[active] != 1 {
-        return false;
-    }
     let status = 8 + active;
-    flags[status] == 1
+    (flags[active] == 1) & (flags[status] == 1)
 }
 
 fn backup_ok(marks: &Marks, entries: &Copies, e: Entry, j: usize) -> bool
@@ -105,16 +88,7 @@ fn backup_ok(marks: &Marks, entries: &Copies, e: Entry, j: usize) -> bool
 fn is_partner(e: Entry, j: usize, f: Entry, k: usize) -> bool
     ensures { λ r. ⌜ r ≡ isPartner e j f k ⌝ }
 {
-    if k / 64 != j / 64 {
-        return false;
-    }
-    if f.tag != TENTATIVE {
-        return false;
-    }
-    if f.word != e.word {
-        return false;
-    }
-    e.state <= f.state
+    (k / 64 == j / 64) & (f.tag == TENTATIVE) & (f.word == e.word) & (e.state <= f.state)
 }
 
 fn wide(x: u16) -> usize

@@ -1,5 +1,6 @@
 // Refusal 9: whether a state handed in is sound. Two passes leave scratch notes of where each copy stands and who owns each word; then
-// every place is looked at once against the notes. Nothing is compared pair by pair.
+// every place is looked at once against the notes. Nothing is compared pair by pair. Tests are put together by `&`, which makes them all, as a
+// sound state needs: so a contract is one equation, with no case for each test that fails.
 
 mod arrays;
 mod copies;
@@ -21,6 +22,7 @@ use crate::marks::OF_LINES;
 use crate::marks::mark_all;
 use crate::owners::Owners;
 use crate::owners::own_all;
+use entry::refusals::ACCEPTED;
 use rules::Copies;
 use rules::Dims;
 use rules::Flags;
@@ -32,19 +34,11 @@ ghost use Rattle.rules.specs.Lent.{lent};
 pub fn sound(memory: &Memory, lines: &Copies, entries: &Copies, flags: &Flags, d: Dims) -> bool
     ensures { λ r. ⌜ r ≡ soundOf d (lent memory lines entries flags) ⌝ }
 {
-    if !lengths_ok(memory, lines, entries, flags) {
-        return false;
-    }
-    if dims_refusal(d) != 0 {
-        return false;
-    }
-    if !flags_ok(flags, d.processors) {
-        return false;
-    }
-    if !memory_ok(memory, d.words) {
-        return false;
-    }
-    copies_ok(memory, lines, entries, flags, d)
+    lengths_ok(memory, lines, entries, flags)
+        & (dims_refusal(d) == ACCEPTED)
+        & flags_ok(flags, d.processors)
+        & memory_ok(memory, d.words)
+        & copies_ok(memory, lines, entries, flags, d)
 }
 
 fn copies_ok(memory: &Memory, lines: &Copies, entries: &Copies, flags: &Flags, d: Dims) -> bool
@@ -56,8 +50,6 @@ fn copies_ok(memory: &Memory, lines: &Copies, entries: &Copies, flags: &Flags, d
     let mut owners: Owners = [0; 256];
     own_all(&mut owners, lines);
     own_all(&mut owners, entries);
-    if !lines_ok(memory, &marks, &owners, d, lines) {
-        return false;
-    }
-    entries_ok(memory, &marks, &owners, flags, d, entries)
+    lines_ok(memory, &marks, &owners, d, lines)
+        & entries_ok(memory, &marks, &owners, flags, d, entries)
 }

@@ -10,7 +10,7 @@ use rules::Copies;
 use rules::Dims;
 use rules::Memory;
 ghost use mathlib.Core.Path.{_≡_};
-ghost use Rattle.rules.specs.SoundTest.{lineOk, linesOk};
+ghost use Rattle.rules.specs.SoundTest.{isHome, lineOk, linesOk};
 ghost use Rattle.rules.specs.Lent.{before};
 
 pub(crate) fn lines_ok(
@@ -38,26 +38,24 @@ fn line_ok(memory: &Memory, marks: &Marks, owners: &Owners, d: Dims, x: u64, j: 
     if x == 0 {
         return true;
     }
-    if j / 64 >= d.processors {
-        return false;
-    }
-    // So there is a line, and the remainder below is safe.
-    if j % 64 >= d.lines {
-        return false;
-    }
     let e = Entry::unpack(x);
-    // Only what a copy packs to comes back.
-    if e.pack() != x {
-        return false;
+    (j / 64 < d.processors)
+        & (j % 64 < d.lines)
+        & (e.pack() == x)
+        & (e.tag == INVALID)
+        & (e.state != INVALID)
+        & is_home(d, e, j % 64)
+        & copy_ok(memory, marks, owners, d.words, OF_LINES, e, j)
+}
+
+// The remainder by no lines is the word itself, as in the definition.
+fn is_home(d: Dims, e: Entry, i: usize) -> bool
+    ensures { λ r. ⌜ r ≡ isHome d e i ⌝ }
+{
+    let word = e.word as usize;
+    let lines = d.lines;
+    if lines == 0 {
+        return word == i;
     }
-    if e.tag != INVALID {
-        return false;
-    }
-    if e.state == INVALID {
-        return false;
-    }
-    if (e.word as usize) % d.lines != j % 64 {
-        return false;
-    }
-    copy_ok(memory, marks, owners, d.words, OF_LINES, e, j)
+    word % lines == i
 }

@@ -17,66 +17,19 @@ use rules::Copies;
 use rules::Dims;
 use rules::Flags;
 use rules::Memory;
+use rules::place;
 ghost use mathlib.Core.Path.{_≡_};
 ghost use mathlib.Core.List.{List};
-ghost use Prim.Native.Nat.{ℕ, _+_};
+ghost use Prim.Native.Nat.{ℕ};
 ghost use lib.Dec.{eqb};
 ghost use Rattle.laws.specs.Choice.{pick};
 ghost use Rattle.entry.specs.declared.answer.Answer.the-variants.{Aborted};
-ghost use Rattle.entry.specs.Numbers.{VALID, RESERVED, DIRTY, LT, T-RFO};
-ghost use Rattle.entry.specs.Answer.{answered, asked, quiet};
+ghost use Rattle.entry.specs.Numbers.{VALID, RESERVED, DIRTY, LT};
+ghost use Rattle.entry.specs.Answer.{answered};
 ghost use Rattle.rules.specs.State.{caches, outcome, counted};
-ghost use Rattle.rules.specs.Transact.{dropLine, finish, requestOf, hit, openNormal, clearBackup, fillBackup, fill, request, missAt, miss, seek, transact};
+ghost use Rattle.rules.specs.Transact.{dropLine, finish, requestOf, hit, openNormal, clearBackup, fillBackup};
+ghost use Rattle.rules.specs.Transact.{fill, request, missAt, miss, seek, transact};
 ghost use Rattle.rules.specs.Lent.{before, after, lent, returned};
-
-fn quiet_counts(w: u32) -> Counts
-    ensures { λ r. ⌜ r ≡ quiet w ⌝ }
-{
-    Counts {
-        read: 0,
-        rfo: 0,
-        write: w,
-        t_read: 0,
-        t_rfo: 0,
-        busy: 0,
-    }
-}
-
-fn upgrade_counts(w: u32, busy: u32) -> Counts
-    ensures { λ r. ⌜ r ≡ asked T-RFO w busy ⌝ }
-{
-    Counts {
-        read: 0,
-        rfo: 0,
-        write: w,
-        t_read: 0,
-        t_rfo: 1,
-        busy: busy,
-    }
-}
-
-fn request_counts(op: u8, w: u32, busy: u32) -> Counts
-    ensures { λ r. ⌜ r ≡ asked (requestOf op) w busy ⌝ }
-{
-    if op == LT {
-        return Counts {
-            read: 0,
-            rfo: 0,
-            write: w,
-            t_read: 1,
-            t_rfo: 0,
-            busy: busy,
-        };
-    }
-    Counts {
-        read: 0,
-        rfo: 0,
-        write: w,
-        t_read: 0,
-        t_rfo: 1,
-        busy: busy,
-    }
-}
 
 fn request_of(op: u8) -> u8
     ensures { λ r. ⌜ r ≡ requestOf op ⌝ }
@@ -115,10 +68,11 @@ fn aborted(c: Counts) -> Answered
 }
 
 fn drop_line(memory: &mut Memory, lines: &mut Copies, d: Dims, p: usize, word: u8) -> u8
-    ensures { λ r. ⌜ ((e f : List ℕ) → counted r (caches (after memory) (after lines) e f) ≡ dropLine d p word (caches (before memory) (before lines) e f)) ⌝ }
+    ensures { λ r. ⌜ ((e f : List ℕ) → counted r (caches (after memory) (after lines) e f) ≡
+        dropLine d p word (caches (before memory) (before lines) e f)) ⌝ }
 {
     let i = caches::home(d, word);
-    let j = p % 8 * 64 + i % 64;
+    let j = place(p, i);
     let line = Entry::unpack(lines[j]);
     if caches::holds(line, word) {
         return caches::clear(memory, lines, p, i);
@@ -129,7 +83,7 @@ fn drop_line(memory: &mut Memory, lines: &mut Copies, d: Dims, p: usize, word: u
 fn finish(entries: &mut Copies, op: u8, p: usize, i: usize, v: u32, c: Counts) -> Answered
     ensures { λ r. ⌜ ((m l f : List ℕ) → outcome r (caches m l (after entries) f) ≡ finish op p i v c (caches m l (before entries) f)) ⌝ }
 {
-    let j = p % 8 * 64 + i % 64;
+    let j = place(p, i);
     let e = Entry::unpack(entries[j]);
     if op == ST {
         let f = e.stored(v);
@@ -161,33 +115,34 @@ fn hit(
 ) -> Answered
     ensures { λ r. ⌜ outcome r (returned memory lines entries flags) ≡ hit d op p i word v w1 w2 (lent memory lines entries flags) ⌝ }
 {
-    let w = (w1 as u32) + (w2 as u32);
+    let w = (w1 as u16) + (w2 as u16);
     if op == LT {
-        return finish(entries, op, p, i, v, quiet_counts(w));
+        return finish(entries, op, p, i, v, Counts::quiet(w));
     }
-    let j = p % 8 * 64 + i % 64;
+    let j = place(p, i);
     let e = Entry::unpack(entries[j]);
     if e.state != VALID {
-        return finish(entries, op, p, i, v, quiet_counts(w));
+        return finish(entries, op, p, i, v, Counts::quiet(w));
     }
     if snoop::request(memory, lines, entries, d, p, word, T_RFO) {
         caches::rollback(entries, flags, p, d.entries);
-        return aborted(upgrade_counts(w, 1));
+        return aborted(Counts::asked(T_RFO, w, 1));
     }
     let f = e.with_state(RESERVED);
     entries[j] = f.pack();
-    finish(entries, op, p, i, v, upgrade_counts(w, 0))
+    finish(entries, op, p, i, v, Counts::asked(T_RFO, w, 0))
 }
 
 fn open_normal(memory: &mut Memory, entries: &mut Copies, d: Dims, p: usize, i: usize) -> u8
-    ensures { λ r. ⌜ ((l f : List ℕ) → counted r (caches (after memory) l (after entries) f) ≡ openNormal d p i (caches (before memory) l (before entries) f)) ⌝ }
+    ensures { λ r. ⌜ ((l f : List ℕ) → counted r (caches (after memory) l (after entries) f) ≡
+        openNormal d p i (caches (before memory) l (before entries) f)) ⌝ }
 {
-    let j = p % 8 * 64 + i % 64;
+    let j = place(p, i);
     let e = Entry::unpack(entries[j]);
     let tentative = e.with_tag(TENTATIVE);
     let b = caches::free_slot(entries, p, d.entries, i);
     if b < d.entries {
-        let k = p % 8 * 64 + b % 64;
+        let k = place(p, b);
         let victim = Entry::unpack(entries[k]);
         let backup = e.with_tag(BACKUP);
         entries[k] = backup.pack();
@@ -201,7 +156,8 @@ fn open_normal(memory: &mut Memory, entries: &mut Copies, d: Dims, p: usize, i: 
 }
 
 fn clear_backup(memory: &mut Memory, entries: &mut Copies, d: Dims, p: usize, b: usize) -> u8
-    ensures { λ r. ⌜ ((l f : List ℕ) → counted r (caches (after memory) l (after entries) f) ≡ clearBackup d p b (caches (before memory) l (before entries) f)) ⌝ }
+    ensures { λ r. ⌜ ((l f : List ℕ) → counted r (caches (after memory) l (after entries) f) ≡
+        clearBackup d p b (caches (before memory) l (before entries) f)) ⌝ }
 {
     if b < d.entries {
         return caches::clear(memory, entries, p, b);
@@ -213,7 +169,7 @@ fn fill_backup(entries: &mut Copies, d: Dims, p: usize, b: usize, e: Entry)
     ensures { λ r. ⌜ after entries ≡ fillBackup d p b e (before entries) ⌝ }
 {
     if b < d.entries {
-        let j = p % 8 * 64 + b % 64;
+        let j = place(p, b);
         entries[j] = e.pack();
     }
 }
@@ -228,9 +184,10 @@ fn fill(
     word: u8,
     supplied: u32,
     v: u32,
-    w: u32,
+    w: u16,
 ) -> Answered
-    ensures { λ r. ⌜ ((m l f : List ℕ) → outcome r (caches m l (after entries) f) ≡ fill d op p i b word supplied v w (caches m l (before entries) f)) ⌝ }
+    ensures { λ r. ⌜ ((m l f : List ℕ) → outcome r (caches m l (after entries) f) ≡
+        fill d op p i b word supplied v w (caches m l (before entries) f)) ⌝ }
 {
     let state = filled_state(op);
     let tentative = Entry {
@@ -239,7 +196,7 @@ fn fill(
         word: word,
         data: supplied,
     };
-    let j = p % 8 * 64 + i % 64;
+    let j = place(p, i);
     entries[j] = tentative.pack();
     let backup = Entry {
         state: state,
@@ -248,7 +205,7 @@ fn fill(
         data: supplied,
     };
     fill_backup(entries, d, p, b, backup);
-    finish(entries, op, p, i, v, request_counts(op, w, 0))
+    finish(entries, op, p, i, v, Counts::asked(request_of(op), w, 0))
 }
 
 fn request(
@@ -263,14 +220,14 @@ fn request(
     b: usize,
     word: u8,
     v: u32,
-    w: u32,
+    w: u16,
 ) -> Answered
     ensures { λ r. ⌜ outcome r (returned memory lines entries flags) ≡ request d op p i b word v w (lent memory lines entries flags) ⌝ }
 {
     let cycle = request_of(op);
     if snoop::request(memory, lines, entries, d, p, word, cycle) {
         caches::rollback(entries, flags, p, d.entries);
-        return aborted(request_counts(op, w, 1));
+        return aborted(Counts::asked(cycle, w, 1));
     }
     let a = word as usize;
     let supplied = memory[a];
@@ -295,7 +252,7 @@ fn miss_at(
     let w2 = caches::clear(memory, entries, p, i);
     let b = caches::free_slot(entries, p, d.entries, i);
     let w3 = clear_backup(memory, entries, d, p, b);
-    let w = (w1 as u32) + (w2 as u32) + (w3 as u32);
+    let w = (w1 as u16) + (w2 as u16) + (w3 as u16);
     request(memory, lines, entries, flags, d, op, p, i, b, word, v, w)
 }
 
@@ -319,7 +276,7 @@ fn miss(
         return miss_at(memory, lines, entries, flags, d, op, p, i, word, v, w1);
     }
     caches::rollback(entries, flags, p, n);
-    aborted(quiet_counts(w1 as u32))
+    aborted(Counts::quiet(w1 as u16))
 }
 
 fn seek(
@@ -365,7 +322,7 @@ pub fn transact(
     flags[active] = 1;
     let status = 8 + p % 8;
     if flags[status] == 0 {
-        return aborted(quiet_counts(0));
+        return aborted(Counts::quiet(0));
     }
     let w = drop_line(memory, lines, d, p, word);
     seek(memory, lines, entries, flags, d, op, p, word, v, w)

@@ -1,13 +1,9 @@
-use mathlib.Core.Path.{refl}
 use borrow.Author.Needs.{needs}
 use Rattle.caches.proofs.clear.Statement.{statement}
 use Rattle.caches.proofs.clear.Tie as tie
 
-mul-j : tie.Need-mul-j
-mul-j c = search needs
-
-add-j : tie.Need-add-j
-add-j c = search needs
+place-requires : tie.Need-place-requires
+place-requires c κs = search needs
 
 mul-unpack : tie.Need-mul-unpack
 mul-unpack c = search needs
@@ -29,15 +25,15 @@ write-back-requires c κs = search needs
 
 returns : tie.Need-returns
 returns c =
-    let u = c .before .before .unpack .ensures in
-    (rw (← u) (c .write-back .ensures .0), refl, rw (← u) (c .write-back .ensures .1))
+    let j = c .before .before .before .before .place .ensures in
+    let u = rw j at (c .before .before .unpack .ensures) in
+    (rw (← u) (c .write-back .ensures .0), rw j, rw (← u) (c .write-back .ensures .1))
 
 pub clear-spec : {M : Type 1} → statement M
 clear-spec =
     tie.close
     (tie.spec
-    mul-j
-    add-j
+    place-requires
     mul-unpack
     element-copy-out-unpack
     unpack-requires

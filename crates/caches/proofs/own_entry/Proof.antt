@@ -11,11 +11,8 @@ live-entry-requires c κs = search needs
 returns : tie.Need-returns
 returns c = sym (own-none _ _ _ _ _ (c .before .live-entry .ensures) (c .if1 .taken))
 
-mul-at : tie.Need-mul-at
-mul-at c = search needs
-
-add-at : tie.Need-add-at
-add-at c = search needs
+place-requires : tie.Need-place-requires
+place-requires c κs = search needs
 
 mul-tag-of : tie.Need-mul-tag-of
 mul-tag-of c = search needs
@@ -28,12 +25,14 @@ tag-of-requires c κs = search needs
 
 returns-2 : tie.Need-returns-2
 returns-2 c =
-    let l = c .before .before .before .before .live-entry in
-    sym (own-tentative _ _ _ _ _ (l .ensures) (c .before .before .before .if1 .left) (sym (c .before .tag-of .ensures) ∙ c .if2 .taken))
+    let live = c .before .before .before .before in
+    let l = live .before .live-entry in
+    let t = rw (c .before .before .before .place .ensures) at (c .before .tag-of .ensures) in
+    sym (own-tentative _ _ _ _ _ (l .ensures) (live .if1 .left) (sym t ∙ c .if2 .taken))
 
 find-from-requires : tie.Need-find-from-requires
 find-from-requires c κs =
-    let l = c .before .before .before .before .live-entry in
+    let l = c .before .before .before .before .before .live-entry in
     ((λ e. absurd (omega (arith, e))), λ k a. before-live _ _ _ _ k (rw (l .ensures) at a))
 
 returns-3 : tie.Need-returns-3
@@ -43,12 +42,12 @@ returns-3 c =
 
 returns-4 : tie.Need-returns-4
 returns-4 c =
-    let live = c .before .before .before .before .before in
+    let live = c .before .before .before .before .before .before in
     let l = live .before .live-entry in
     let f = c .before .find-from in
-    let t = c .before .before .before .tag-of in
+    let t = rw (c .before .before .before .before .before .place .ensures) at (c .before .before .before .tag-of .ensures) in
     sym
-    (own-normal _ _ _ _ _ (l .ensures) (live .if1 .left) (λ e. c .before .before .if2 .left (t .ensures ∙ e))
+    (own-normal _ _ _ _ _ (l .ensures) (live .if1 .left) (λ e. c .before .before .if2 .left (t ∙ e))
     (rw (f .ensures) at (c .if3 .left)))
 
 pub own-entry-spec : {M : Type 1} → statement M
@@ -57,8 +56,7 @@ own-entry-spec =
     (tie.spec
     live-entry-requires
     returns
-    mul-at
-    add-at
+    place-requires
     mul-tag-of
     element-copy-out-tag-of
     tag-of-requires

@@ -9,11 +9,8 @@ use Rattle.plain.proofs.load.Tie as tie
 home-requires : tie.Need-home-requires
 home-requires c κs = search needs
 
-mul-j : tie.Need-mul-j
-mul-j c = search needs
-
-add-j : tie.Need-add-j
-add-j c = search needs
+place-requires : tie.Need-place-requires
+place-requires c κs = search needs
 
 mul-unpack : tie.Need-mul-unpack
 mul-unpack c = search needs
@@ -34,9 +31,10 @@ returns : tie.Need-returns
 unfolding load
 returns c =
     let line = c .before in
-    let u = line .before .before .unpack .ensures in
+    let placed = line .before .before .before .before in
+    let u = rw (placed .place .ensures) at (line .before .before .unpack .ensures) in
     rw (
-      ← line .before .before .before .before .home .ensures,
+      ← placed .before .home .ensures,
       ← (rw u at (line .before .holds .ensures)),
       line .if1 .taken,
       c .hit .ensures,
@@ -58,19 +56,18 @@ returns-2 c =
     let own = c .before .before .before .before .before in
     let o = own .before .before .own-entry in
     let line = own .before .before .before .before in
+    let placed = line .before .before .before .before in
+    let u = rw (placed .place .ensures) at (line .before .before .unpack .ensures) in
     rw (
-      ← line .before .before .before .before .home .ensures,
-      ← (rw (line .before .before .unpack .ensures) at (line .before .holds .ensures)),
+      ← placed .before .home .ensures,
+      ← (rw u at (line .before .holds .ensures)),
       line .if1 .left,
       normal-own _ _ _ _ _ (o .ensures) (not-true (o .result .tentative) (own .if2 .taken)) .0,
     )
     (c .load-on .ensures)
 
-mul-k : tie.Need-mul-k
-mul-k c = search needs
-
-add-k : tie.Need-add-k
-add-k c = search needs
+place-requires-2 : tie.Need-place-requires-2
+place-requires-2 c κs = search needs
 
 mul-unpack-2 : tie.Need-mul-unpack-2
 mul-unpack-2 c = search needs
@@ -87,20 +84,23 @@ hit-requires-2 c κs = search needs
 returns-3 : tie.Need-returns-3
 unfolding load
 returns-3 c =
-    let own = c .before .before .before .before .before in
+    let placed2 = c .before .before .before .before .before in
+    let own = placed2 .before in
     let o = own .before .before .own-entry in
     let t = tentative-own _ _ _ _ _ (o .ensures) (not-false (o .result .tentative) (own .if2 .left)) in
-    let u = c .before .before .before .unpack2 in
+    let u2 = rw (placed2 .place2 .ensures) at (c .before .before .before .unpack2 .ensures) in
     let line = own .before .before .before .before in
+    let placed = line .before .before .before .before in
+    let u = rw (placed .place .ensures) at (line .before .before .unpack .ensures) in
     rw (
-      ← line .before .before .before .before .home .ensures,
-      ← (rw (line .before .before .unpack .ensures) at (line .before .holds .ensures)),
+      ← placed .before .home .ensures,
+      ← (rw u at (line .before .holds .ensures)),
       line .if1 .left,
       t .0,
       t .1,
-      eq-eqb _ _ (rw (u .ensures) at (c .before .if3 .taken)),
+      eq-eqb _ _ (rw u2 at (c .before .if3 .taken)),
       c .hit2 .ensures,
-      u .ensures,
+      u2,
     )
 
 rollback-requires : tie.Need-rollback-requires
@@ -116,18 +116,22 @@ returns-4 : tie.Need-returns-4
 unfolding load
 returns-4 c =
     let state = c .before .before .before .before .before .before .before .before .before .before in
-    let own = state .before .before .before .before in
+    let placed2 = state .before .before .before .before in
+    let u2 = rw (placed2 .place2 .ensures) at (state .before .before .unpack2 .ensures) in
+    let own = placed2 .before in
     let o = own .before .before .own-entry in
     let t = tentative-own _ _ _ _ _ (o .ensures) (not-false (o .result .tentative) (own .if2 .left)) in
     let line = own .before .before .before .before in
+    let placed = line .before .before .before .before in
+    let u = rw (placed .place .ensures) at (line .before .before .unpack .ensures) in
     let r = c .before .before .before .before .before .before .before .rollback in
     rw (
-      ← line .before .before .before .before .home .ensures,
-      ← (rw (line .before .before .unpack .ensures) at (line .before .holds .ensures)),
+      ← placed .before .home .ensures,
+      ← (rw u at (line .before .holds .ensures)),
       line .if1 .left,
       t .0,
       t .1,
-      ne-eqb _ _ (rw (state .before .before .unpack2 .ensures) at (state .if3 .left)),
+      ne-eqb _ _ (rw u2 at (state .if3 .left)),
       ← r .ensures .0,
       ← r .ensures .1,
     )
@@ -138,8 +142,7 @@ load-spec =
     tie.close
     (tie.spec
     home-requires
-    mul-j
-    add-j
+    place-requires
     mul-unpack
     element-copy-out-unpack
     unpack-requires
@@ -149,8 +152,7 @@ load-spec =
     own-entry-requires
     load-on-requires
     returns-2
-    mul-k
-    add-k
+    place-requires-2
     mul-unpack-2
     element-copy-out-unpack-2
     unpack-requires-2

@@ -18,11 +18,8 @@ mul-v c = search needs
 element-copy-out-v : tie.Need-element-copy-out-v
 element-copy-out-v c = search needs
 
-mul-j : tie.Need-mul-j
-mul-j c = search needs
-
-add-j : tie.Need-add-j
-add-j c = search needs
+place-requires : tie.Need-place-requires
+place-requires c κs = search needs
 
 pack-requires : tie.Need-pack-requires
 pack-requires c κs = search needs
@@ -33,13 +30,18 @@ mul-lines c = search needs
 element-write-lines : tie.Need-element-write-lines
 element-write-lines c = search needs
 
-loaded-requires : tie.Need-loaded-requires
-loaded-requires c κs = search needs
+cast-asked : tie.Need-cast-asked
+cast-asked c = search needs
+
+asked-requires : tie.Need-asked-requires
+asked-requires c κs = search needs
 
 returns : tie.Need-returns
 unfolding loadMiss
 returns c =
-    let clear = c .before .before .before .before .before .before .before .before in
+    let placed = c .before .before in
+    let requested = placed .before .before in
+    let clear = requested .before .before .before .before .before in
     let cleared = clear .clear .ensures in
     rw (
       ← clear .before .before .before .home .ensures,
@@ -47,7 +49,7 @@ returns c =
       ← cleared .1,
       ← cleared .2,
     )
-    (rw (← c .before .before .before .plain-request .ensures) (rw (c .before .pack .ensures, c .loaded .ensures)))
+    (rw (← requested .plain-request .ensures) (rw (placed .place .ensures, c .before .pack .ensures, c .asked .ensures)))
 
 pub load-miss-spec : {M : Type 1} → statement M
 load-miss-spec =
@@ -58,10 +60,10 @@ load-miss-spec =
     plain-request-requires
     mul-v
     element-copy-out-v
-    mul-j
-    add-j
+    place-requires
     pack-requires
     mul-lines
     element-write-lines
-    loaded-requires
+    cast-asked
+    asked-requires
     returns)

@@ -4,11 +4,8 @@ use borrow.Author.Needs.{needs}
 use Rattle.plain.proofs.load_on.Statement.{statement}
 use Rattle.plain.proofs.load_on.Tie as tie
 
-mul-j : tie.Need-mul-j
-mul-j c = search needs
-
-add-j : tie.Need-add-j
-add-j c = search needs
+place-requires : tie.Need-place-requires
+place-requires c κs = search needs
 
 mul-unpack : tie.Need-mul-unpack
 mul-unpack c = search needs
@@ -25,8 +22,10 @@ hit-requires c κs = search needs
 returns : tie.Need-returns
 unfolding loadOn
 returns c =
-    let found = c .before .before .before in
-    rw (← found .before .before .pre, lt-ltb _ _ (found .if1 .taken), c .hit .ensures, c .before .unpack .ensures)
+    let placed = c .before .before .before in
+    let found = placed .before in
+    let u = rw (placed .place .ensures) at (c .before .unpack .ensures) in
+    rw (← found .before .before .pre, lt-ltb _ _ (found .if1 .taken), c .hit .ensures, u)
 
 load-miss-requires : tie.Need-load-miss-requires
 load-miss-requires c κs = search needs
@@ -41,8 +40,7 @@ pub load-on-spec : {M : Type 1} → statement M
 load-on-spec =
     tie.close
     (tie.spec
-    mul-j
-    add-j
+    place-requires
     mul-unpack
     element-copy-out-unpack
     unpack-requires

@@ -7,11 +7,8 @@ use Rattle.plain.proofs.store_line.Tie as tie
 home-requires : tie.Need-home-requires
 home-requires c κs = search needs
 
-mul-j : tie.Need-mul-j
-mul-j c = search needs
-
-add-j : tie.Need-add-j
-add-j c = search needs
+place-requires : tie.Need-place-requires
+place-requires c κs = search needs
 
 mul-unpack : tie.Need-mul-unpack
 mul-unpack c = search needs
@@ -33,9 +30,10 @@ unfolding storeLine
 returns c =
     let state = c .before .before .before .before .before in
     let line = state .before .before in
-    let u = line .before .before .unpack .ensures in
+    let placed = line .before .before .before .before in
+    let u = rw (placed .place .ensures) at (line .before .before .unpack .ensures) in
     rw (
-      ← line .before .before .before .before .home .ensures,
+      ← placed .before .home .ensures,
       ← (rw u at (line .before .holds .ensures)),
       line .if1 .taken,
       eq-eqb _ _ (rw u at (state .if2 .taken)),
@@ -51,22 +49,24 @@ mul-lines c = search needs
 element-write-lines : tie.Need-element-write-lines
 element-write-lines c = search needs
 
-stored-requires : tie.Need-stored-requires
-stored-requires c κs = search needs
+quiet-requires : tie.Need-quiet-requires
+quiet-requires c κs = search needs
 
 returns-2 : tie.Need-returns-2
 unfolding storeLine
 returns-2 c =
     let state = c .before .before in
     let line = state .before .before in
-    let u = line .before .before .unpack .ensures in
+    let placed = line .before .before .before .before in
+    let u = rw (placed .place .ensures) at (line .before .before .unpack .ensures) in
     rw (
-      ← line .before .before .before .before .home .ensures,
+      ← placed .before .home .ensures,
       ← (rw u at (line .before .holds .ensures)),
       line .if1 .taken,
       ne-eqb _ _ (rw u at (state .if2 .left)),
+      placed .place .ensures,
       c .before .pack .ensures,
-      c .stored .ensures,
+      c .quiet .ensures,
     )
 
 store-miss-requires : tie.Need-store-miss-requires
@@ -76,9 +76,11 @@ returns-3 : tie.Need-returns-3
 unfolding storeLine
 returns-3 c =
     let line = c .before .before .before .before .before in
+    let placed = line .before .before .before .before in
+    let u = rw (placed .place .ensures) at (line .before .before .unpack .ensures) in
     rw (
-      ← line .before .before .before .before .home .ensures,
-      ← (rw (line .before .before .unpack .ensures) at (line .before .holds .ensures)),
+      ← placed .before .home .ensures,
+      ← (rw u at (line .before .holds .ensures)),
       line .if1 .left,
     )
     (c .store-miss .ensures)
@@ -88,8 +90,7 @@ store-line-spec =
     tie.close
     (tie.spec
     home-requires
-    mul-j
-    add-j
+    place-requires
     mul-unpack
     element-copy-out-unpack
     unpack-requires
@@ -99,7 +100,7 @@ store-line-spec =
     pack-requires
     mul-lines
     element-write-lines
-    stored-requires
+    quiet-requires
     returns-2
     store-miss-requires
     returns-3)

@@ -12,11 +12,8 @@ clear-requires c κs = search needs
 plain-request-requires : tie.Need-plain-request-requires
 plain-request-requires c κs = search needs
 
-mul-j : tie.Need-mul-j
-mul-j c = search needs
-
-add-j : tie.Need-add-j
-add-j c = search needs
+place-requires : tie.Need-place-requires
+place-requires c κs = search needs
 
 pack-requires : tie.Need-pack-requires
 pack-requires c κs = search needs
@@ -27,13 +24,21 @@ mul-lines c = search needs
 element-write-lines : tie.Need-element-write-lines
 element-write-lines c = search needs
 
-stored-alone-requires : tie.Need-stored-alone-requires
-stored-alone-requires c κs = search needs
+cast-all : tie.Need-cast-all
+cast-all c = search needs
+
+add-all : tie.Need-add-all
+add-all c = search needs
+
+asked-requires : tie.Need-asked-requires
+asked-requires c κs = search needs
 
 returns : tie.Need-returns
 unfolding storeMiss
 returns c =
-    let clear = c .before .before .before .before .before .before .before in
+    let placed = c .before .before in
+    let requested = placed .before in
+    let clear = requested .before .before .before .before .before in
     let cleared = clear .clear .ensures in
     rw (
       ← clear .before .before .before .home .ensures,
@@ -41,7 +46,7 @@ returns c =
       ← cleared .1,
       ← cleared .2,
     )
-    (rw (← c .before .before .plain-request .ensures) (rw (c .before .pack .ensures, c .stored-alone .ensures)))
+    (rw (← requested .plain-request .ensures) (rw (placed .place .ensures, c .before .pack .ensures, c .asked .ensures)))
 
 pub store-miss-spec : {M : Type 1} → statement M
 store-miss-spec =
@@ -50,10 +55,11 @@ store-miss-spec =
     home-requires
     clear-requires
     plain-request-requires
-    mul-j
-    add-j
+    place-requires
     pack-requires
     mul-lines
     element-write-lines
-    stored-alone-requires
+    cast-all
+    add-all
+    asked-requires
     returns)

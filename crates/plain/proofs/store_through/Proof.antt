@@ -15,11 +15,8 @@ element-write-memory c = search needs
 home-requires : tie.Need-home-requires
 home-requires c κs = search needs
 
-mul-j : tie.Need-mul-j
-mul-j c = search needs
-
-add-j : tie.Need-add-j
-add-j c = search needs
+place-requires : tie.Need-place-requires
+place-requires c κs = search needs
 
 pack-requires : tie.Need-pack-requires
 pack-requires c κs = search needs
@@ -30,14 +27,15 @@ mul-lines c = search needs
 element-write-lines : tie.Need-element-write-lines
 element-write-lines c = search needs
 
-stored-through-requires : tie.Need-stored-through-requires
-stored-through-requires c κs = search needs
+asked-requires : tie.Need-asked-requires
+asked-requires c κs = search needs
 
 returns : tie.Need-returns
 unfolding storeThrough
 returns c =
-    rw (← c .before .before .before .plain-request .ensures)
-    (rw (← c .before .before .home .ensures, c .before .pack .ensures, c .stored-through .ensures))
+    let placed = c .before .before in
+    rw (← placed .before .before .plain-request .ensures)
+    (rw (← placed .before .home .ensures, placed .place .ensures, c .before .pack .ensures, c .asked .ensures))
 
 pub store-through-spec : {M : Type 1} → statement M
 store-through-spec =
@@ -47,10 +45,9 @@ store-through-spec =
     mul-memory
     element-write-memory
     home-requires
-    mul-j
-    add-j
+    place-requires
     pack-requires
     mul-lines
     element-write-lines
-    stored-through-requires
+    asked-requires
     returns)

@@ -1,4 +1,3 @@
-use borrow.Author.Tests.{not-true, not-false}
 use Rattle.rules.specs.SoundTest.{copiesOk}
 use borrow.Author.Needs.{needs}
 use Rattle.sound.proofs.copies_ok.Statement.{statement}
@@ -19,32 +18,22 @@ own-all-requires-2 c κs = search needs
 lines-ok-requires : tie.Need-lines-ok-requires
 lines-ok-requires c κs = search needs
 
-returns : tie.Need-returns
-unfolding copiesOk
-returns c =
-    rw (
-      ← c .before .before .before .before .before .before .before .before .before .before .mark-all .ensures,
-      ← c .before .before .before .before .before .before .before .before .mark-all2 .ensures,
-      ← c .before .before .before .before .before .before .own-all .ensures,
-      ← c .before .before .before .before .own-all2 .ensures,
-      ← c .before .lines-ok .ensures,
-      not-true (c .before .lines-ok .result) (c .if1 .taken),
-    )
-
 entries-ok-requires : tie.Need-entries-ok-requires
 entries-ok-requires c κs = search needs
 
-returns-2 : tie.Need-returns-2
+returns : tie.Need-returns
 unfolding copiesOk
-returns-2 c =
+returns c =
+    let tested = c .before .before .before in
+    let owned = tested .before .before .before in
+    let marked = owned .before .before .before .before in
     rw (
-      ← c .before .before .before .before .before .before .before .before .before .before .before .before .before .mark-all .ensures,
-      ← c .before .before .before .before .before .before .before .before .before .before .before .mark-all2 .ensures,
-      ← c .before .before .before .before .before .before .before .before .before .own-all .ensures,
-      ← c .before .before .before .before .before .before .before .own-all2 .ensures,
-      ← c .before .before .before .before .lines-ok .ensures,
-      not-false (c .before .before .before .before .lines-ok .result) (c .before .before .before .if1 .left),
-      ← c .entries-ok .ensures,
+      ← marked .before .before .mark-all .ensures,
+      ← marked .mark-all2 .ensures,
+      ← owned .before .before .own-all .ensures,
+      ← owned .own-all2 .ensures,
+      tested .lines-ok .ensures,
+      c .entries-ok .ensures,
     )
 
 pub copies-ok-spec : {M : Type 1} → statement M
@@ -56,6 +45,5 @@ copies-ok-spec =
     own-all-requires
     own-all-requires-2
     lines-ok-requires
-    returns
     entries-ok-requires
-    returns-2)
+    returns)

@@ -6,11 +6,8 @@ use Rattle.transact.proofs.drop_line.Tie as tie
 home-requires : tie.Need-home-requires
 home-requires c κs = search needs
 
-mul-j : tie.Need-mul-j
-mul-j c = search needs
-
-add-j : tie.Need-add-j
-add-j c = search needs
+place-requires : tie.Need-place-requires
+place-requires c κs = search needs
 
 mul-unpack : tie.Need-mul-unpack
 mul-unpack c = search needs
@@ -31,11 +28,13 @@ returns : tie.Need-returns
 unfolding dropLine
 returns c =
     let line = c .before .before .before in
+    let placed = line .before .before .before .before in
+    let u = rw (placed .place .ensures) at (line .before .before .unpack .ensures) in
     let cleared = c .clear .ensures in
     λ e f.
     rw (
-      ← line .before .before .before .before .home .ensures,
-      ← (rw (line .before .before .unpack .ensures) at (line .before .holds .ensures)),
+      ← placed .before .home .ensures,
+      ← (rw u at (line .before .holds .ensures)),
       line .if1 .taken,
       ← cleared .0,
       ← cleared .1,
@@ -45,16 +44,16 @@ returns c =
 returns-2 : tie.Need-returns-2
 unfolding dropLine
 returns-2 c =
-    let held = rw (c .before .before .unpack .ensures) at (c .before .holds .ensures) in
-    λ e f. rw (← c .before .before .before .before .home .ensures, ← held, c .if1 .left)
+    let placed = c .before .before .before .before in
+    let u = rw (placed .place .ensures) at (c .before .before .unpack .ensures) in
+    λ e f. rw (← placed .before .home .ensures, ← (rw u at (c .before .holds .ensures)), c .if1 .left)
 
 pub drop-line-spec : {M : Type 1} → statement M
 drop-line-spec =
     tie.close
     (tie.spec
     home-requires
-    mul-j
-    add-j
+    place-requires
     mul-unpack
     element-copy-out-unpack
     unpack-requires

@@ -6,11 +6,8 @@ use Rattle.transact.proofs.fill.Tie as tie
 filled-state-requires : tie.Need-filled-state-requires
 filled-state-requires c κs = search needs
 
-mul-j : tie.Need-mul-j
-mul-j c = search needs
-
-add-j : tie.Need-add-j
-add-j c = search needs
+place-requires : tie.Need-place-requires
+place-requires c κs = search needs
 
 pack-requires : tie.Need-pack-requires
 pack-requires c κs = search needs
@@ -24,8 +21,11 @@ element-write-entries c = search needs
 fill-backup-requires : tie.Need-fill-backup-requires
 fill-backup-requires c κs = search needs
 
-request-counts-requires : tie.Need-request-counts-requires
-request-counts-requires c κs = search needs
+request-of-requires : tie.Need-request-of-requires
+request-of-requires c κs = search needs
+
+asked-requires : tie.Need-asked-requires
+asked-requires c κs = search needs
 
 finish-requires : tie.Need-finish-requires
 finish-requires c κs = search needs
@@ -33,13 +33,16 @@ finish-requires c κs = search needs
 returns : tie.Need-returns
 unfolding fill
 returns c =
-    let packed = c .before .before .before .before .before in
+    let packed = c .before .before .before .before .before .before in
+    let placed = packed .before in
     λ m l f.
     rw (
-      ← packed .before .filled-state .ensures,
+      ← placed .before .filled-state .ensures,
       ← packed .pack .ensures,
-      ← c .before .before .before .fill-backup .ensures,
-      ← c .before .request-counts .ensures,
+      ← placed .place .ensures,
+      ← c .before .before .before .before .fill-backup .ensures,
+      ← c .before .before .request-of .ensures,
+      ← c .before .asked .ensures,
     )
     (c .finish .ensures _ _ _)
 
@@ -48,12 +51,12 @@ fill-spec =
     tie.close
     (tie.spec
     filled-state-requires
-    mul-j
-    add-j
+    place-requires
     pack-requires
     mul-entries
     element-write-entries
     fill-backup-requires
-    request-counts-requires
+    request-of-requires
+    asked-requires
     finish-requires
     returns)

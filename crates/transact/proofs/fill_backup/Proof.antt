@@ -4,11 +4,8 @@ use borrow.Author.Needs.{needs}
 use Rattle.transact.proofs.fill_backup.Statement.{statement}
 use Rattle.transact.proofs.fill_backup.Tie as tie
 
-mul-j : tie.Need-mul-j
-mul-j c = search needs
-
-add-j : tie.Need-add-j
-add-j c = search needs
+place-requires : tie.Need-place-requires
+place-requires c κs = search needs
 
 pack-requires : tie.Need-pack-requires
 pack-requires c κs = search needs
@@ -21,7 +18,7 @@ element-write-entries c = search needs
 
 returns : tie.Need-returns
 unfolding fillBackup
-returns c = rw (lt-ltb _ _ (c .before .if1 .taken), c .pack .ensures)
+returns c = rw (lt-ltb _ _ (c .before .before .if1 .taken), c .before .place .ensures, c .pack .ensures)
 
 returns-2 : tie.Need-returns-2
 unfolding fillBackup
@@ -30,4 +27,4 @@ returns-2 c = rw (le-ltb _ _ (c .if1 .left))
 pub fill-backup-spec : {M : Type 1} → statement M
 fill-backup-spec =
     tie.close
-    (tie.spec mul-j add-j pack-requires mul-entries element-write-entries returns returns-2)
+    (tie.spec place-requires pack-requires mul-entries element-write-entries returns returns-2)

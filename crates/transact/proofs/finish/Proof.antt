@@ -4,11 +4,8 @@ use borrow.Author.Needs.{needs}
 use Rattle.transact.proofs.finish.Statement.{statement}
 use Rattle.transact.proofs.finish.Tie as tie
 
-mul-j : tie.Need-mul-j
-mul-j c = search needs
-
-add-j : tie.Need-add-j
-add-j c = search needs
+place-requires : tie.Need-place-requires
+place-requires c κs = search needs
 
 mul-unpack : tie.Need-mul-unpack
 mul-unpack c = search needs
@@ -35,18 +32,21 @@ returns : tie.Need-returns
 unfolding finish
 returns c =
     let store = c .before .before in
-    λ m l f. rw (eq-eqb _ _ (store .if1 .taken), c .pack .ensures, c .before .stored .ensures, store .before .unpack .ensures)
+    let j = store .before .before .before .place .ensures in
+    let u = rw j at (store .before .unpack .ensures) in
+    λ m l f. rw (eq-eqb _ _ (store .if1 .taken), j, c .pack .ensures, c .before .stored .ensures, u)
 
 returns-2 : tie.Need-returns-2
 unfolding finish
-returns-2 c = λ m l f. rw (ne-eqb _ _ (c .if1 .left), c .before .unpack .ensures)
+returns-2 c =
+    let u = rw (c .before .before .before .place .ensures) at (c .before .unpack .ensures) in
+    λ m l f. rw (ne-eqb _ _ (c .if1 .left), u)
 
 pub finish-spec : {M : Type 1} → statement M
 finish-spec =
     tie.close
     (tie.spec
-    mul-j
-    add-j
+    place-requires
     mul-unpack
     element-copy-out-unpack
     unpack-requires

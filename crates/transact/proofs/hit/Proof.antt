@@ -12,21 +12,18 @@ use Rattle.transact.proofs.hit.Tie as tie
 add-w : tie.Need-add-w
 add-w c = search needs
 
-quiet-counts-requires : tie.Need-quiet-counts-requires
-quiet-counts-requires c κs = search needs
+quiet-requires : tie.Need-quiet-requires
+quiet-requires c κs = search needs
 
 finish-requires : tie.Need-finish-requires
 finish-requires c κs = search needs
 
 returns : tie.Need-returns
 unfolding hit
-returns c = rw (eq-eqb _ _ (c .before .before .before .if1 .taken), ← c .before .quiet-counts .ensures) (c .finish .ensures _ _ _)
+returns c = rw (eq-eqb _ _ (c .before .before .before .if1 .taken), ← c .before .quiet .ensures) (c .finish .ensures _ _ _)
 
-mul-j : tie.Need-mul-j
-mul-j c = search needs
-
-add-j : tie.Need-add-j
-add-j c = search needs
+place-requires : tie.Need-place-requires
+place-requires c κs = search needs
 
 mul-unpack : tie.Need-mul-unpack
 mul-unpack c = search needs
@@ -37,8 +34,8 @@ element-copy-out-unpack c = search needs
 unpack-requires : tie.Need-unpack-requires
 unpack-requires c κs = search needs
 
-quiet-counts-requires-2 : tie.Need-quiet-counts-requires-2
-quiet-counts-requires-2 c κs = search needs
+quiet-requires-2 : tie.Need-quiet-requires-2
+quiet-requires-2 c κs = search needs
 
 finish-requires-2 : tie.Need-finish-requires-2
 finish-requires-2 c κs = search needs
@@ -47,10 +44,12 @@ returns-2 : tie.Need-returns-2
 unfolding hit
 returns-2 c =
     let state = c .before .before .before in
+    let placed = state .before .before .before .before in
+    let u = rw (placed .place .ensures) at (state .before .before .unpack .ensures) in
     rw (
-      ne-eqb _ _ (state .before .before .before .before .if1 .left),
-      ne-eqb _ _ (rw (state .before .before .unpack .ensures) at (state .if2 .taken)),
-      ← c .before .quiet-counts2 .ensures,
+      ne-eqb _ _ (placed .before .if1 .left),
+      ne-eqb _ _ (rw u at (state .if2 .taken)),
+      ← c .before .quiet2 .ensures,
     )
     (c .finish2 .ensures _ _ _)
 
@@ -60,8 +59,8 @@ request-requires c κs = search needs
 rollback-requires : tie.Need-rollback-requires
 rollback-requires c κs = search needs
 
-upgrade-counts-requires : tie.Need-upgrade-counts-requires
-upgrade-counts-requires c κs = search needs
+asked-requires : tie.Need-asked-requires
+asked-requires c κs = search needs
 
 aborted-requires : tie.Need-aborted-requires
 aborted-requires c κs = search needs
@@ -72,15 +71,17 @@ returns-3 c =
     let asked = c .before .before .before .before .before in
     let answer = asked .before .request .ensures in
     let state = asked .before .before .before .before .before in
+    let placed = state .before .before .before .before in
+    let u = rw (placed .place .ensures) at (state .before .before .unpack .ensures) in
     let rolled = c .before .before .rollback .ensures in
     let k = refused _ _ _ _ (answer .1 []) (asked .if3 .taken) in
     rw (
-      ne-eqb _ _ (state .before .before .before .before .if1 .left),
-      eq-eqb _ _ (rw (state .before .before .unpack .ensures) at (state .if2 .left)),
+      ne-eqb _ _ (placed .before .if1 .left),
+      eq-eqb _ _ (rw u at (state .if2 .left)),
       ← answer .0,
       asked .if3 .taken,
       c .aborted .ensures,
-      c .before .upgrade-counts .ensures,
+      c .before .asked .ensures,
       rolled .0,
       rolled .1,
       ap (λ (s : Caches). s .memory) k,
@@ -100,8 +101,8 @@ mul-entries c = search needs
 element-write-entries : tie.Need-element-write-entries
 element-write-entries c = search needs
 
-upgrade-counts-requires-2 : tie.Need-upgrade-counts-requires-2
-upgrade-counts-requires-2 c κs = search needs
+asked-requires-2 : tie.Need-asked-requires-2
+asked-requires-2 c κs = search needs
 
 finish-requires-3 : tie.Need-finish-requires-3
 finish-requires-3 c κs = search needs
@@ -112,44 +113,45 @@ returns-4 c =
     let asked = c .before .before .before .before .before in
     let answer = asked .before .request .ensures in
     let state = asked .before .before .before .before .before in
-    let u = state .before .before .unpack .ensures in
-    let x = state .before .before .before .before .before .args in
+    let placed = state .before .before .before .before in
+    let j = placed .place .ensures in
+    let u = rw j at (state .before .before .unpack .ensures) in
+    let x = placed .before .before .args in
     let k = rw (c .before .before .before .before .with-state .ensures, u) at (c .before .before .before .pack .ensures) in
     let s = passed _ _ _ _ (answer .1 (now (x .flags))) (asked .if3 .left) in
     rw (
-      ne-eqb _ _ (state .before .before .before .before .if1 .left),
+      ne-eqb _ _ (placed .before .if1 .left),
       eq-eqb _ _ (rw u at (state .if2 .left)),
       ← answer .0,
       asked .if3 .left,
-      ← c .before .upgrade-counts2 .ensures,
+      ← c .before .asked2 .ensures,
     )
-    (rw (← s, ← k) (c .finish3 .ensures _ _ _))
+    (rw (← s, ← k, ← j) (c .finish3 .ensures _ _ _))
 
 pub hit-spec : {M : Type 1} → statement M
 hit-spec =
     tie.close
     (tie.spec
     add-w
-    quiet-counts-requires
+    quiet-requires
     finish-requires
     returns
-    mul-j
-    add-j
+    place-requires
     mul-unpack
     element-copy-out-unpack
     unpack-requires
-    quiet-counts-requires-2
+    quiet-requires-2
     finish-requires-2
     returns-2
     request-requires
     rollback-requires
-    upgrade-counts-requires
+    asked-requires
     aborted-requires
     returns-3
     with-state-requires
     pack-requires
     mul-entries
     element-write-entries
-    upgrade-counts-requires-2
+    asked-requires-2
     finish-requires-3
     returns-4)

@@ -19,8 +19,8 @@ returns c =
 rollback-requires : tie.Need-rollback-requires
 rollback-requires c κs = search needs
 
-quiet-counts-requires : tie.Need-quiet-counts-requires
-quiet-counts-requires c κs = search needs
+quiet-requires : tie.Need-quiet-requires
+quiet-requires c κs = search needs
 
 aborted-requires : tie.Need-aborted-requires
 aborted-requires c κs = search needs
@@ -34,7 +34,7 @@ returns-2 c =
       ← full .before .free-slot .ensures,
       le-ltb _ _ (full .if1 .left),
       c .aborted .ensures,
-      c .before .quiet-counts .ensures,
+      c .before .quiet .ensures,
       ← rolled .0,
       ← rolled .1,
     )
@@ -47,6 +47,6 @@ miss-spec =
     miss-at-requires
     returns
     rollback-requires
-    quiet-counts-requires
+    quiet-requires
     aborted-requires
     returns-2)

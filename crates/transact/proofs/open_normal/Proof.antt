@@ -4,11 +4,8 @@ use borrow.Author.Needs.{needs}
 use Rattle.transact.proofs.open_normal.Statement.{statement}
 use Rattle.transact.proofs.open_normal.Tie as tie
 
-mul-j : tie.Need-mul-j
-mul-j c = search needs
-
-add-j : tie.Need-add-j
-add-j c = search needs
+place-requires : tie.Need-place-requires
+place-requires c κs = search needs
 
 mul-unpack : tie.Need-mul-unpack
 mul-unpack c = search needs
@@ -25,11 +22,8 @@ with-tag-requires c κs = search needs
 free-slot-requires : tie.Need-free-slot-requires
 free-slot-requires c κs = search needs
 
-mul-k : tie.Need-mul-k
-mul-k c = search needs
-
-add-k : tie.Need-add-k
-add-k c = search needs
+place-requires-2 : tie.Need-place-requires-2
+place-requires-2 c κs = search needs
 
 mul-unpack-2 : tie.Need-mul-unpack-2
 mul-unpack-2 c = search needs
@@ -67,8 +61,11 @@ write-back-requires c κs = search needs
 returns : tie.Need-returns
 unfolding openNormal
 returns c =
-    let free = c .before .before .before .before .before .before .before in
+    let placed2 = c .before .before .before .before .before .before .before in
+    let free = placed2 .before in
     let tagged = free .before .before .before .before in
+    let j = tagged .before .before .before .place .ensures in
+    let k = placed2 .place2 .ensures in
     let written = c .write-back .ensures in
     λ l f.
     rw (
@@ -78,10 +75,12 @@ returns c =
       c .before .before .before .pack .ensures,
       c .before .before .before .before .with-tag2 .ensures,
       tagged .with-tag .ensures,
-      tagged .before .unpack .ensures,
+      rw j at (tagged .before .unpack .ensures),
       written .0,
       written .1,
-      c .before .before .before .before .before .unpack2 .ensures,
+      rw k at (c .before .before .before .before .before .unpack2 .ensures),
+      j,
+      k,
     )
 
 written-state-requires : tie.Need-written-state-requires
@@ -107,6 +106,7 @@ unfolding openNormal
 returns-2 c =
     let full = c .before .before .before .before .before in
     let tagged = full .before .before .before .before in
+    let j = tagged .before .before .before .place .ensures in
     let written = c .write-back2 .ensures in
     λ l f.
     rw (
@@ -118,22 +118,21 @@ returns-2 c =
       c .before .before .before .before .written-state .ensures,
       written .0,
       written .1,
-      tagged .before .unpack .ensures,
+      rw j at (tagged .before .unpack .ensures),
+      j,
     )
 
 pub open-normal-spec : {M : Type 1} → statement M
 open-normal-spec =
     tie.close
     (tie.spec
-    mul-j
-    add-j
+    place-requires
     mul-unpack
     element-copy-out-unpack
     unpack-requires
     with-tag-requires
     free-slot-requires
-    mul-k
-    add-k
+    place-requires-2
     mul-unpack-2
     element-copy-out-unpack-2
     unpack-requires-2

@@ -17,8 +17,8 @@ request-requires c κs = search needs
 rollback-requires : tie.Need-rollback-requires
 rollback-requires c κs = search needs
 
-request-counts-requires : tie.Need-request-counts-requires
-request-counts-requires c κs = search needs
+asked-requires : tie.Need-asked-requires
+asked-requires c κs = search needs
 
 aborted-requires : tie.Need-aborted-requires
 aborted-requires c κs = search needs
@@ -32,7 +32,7 @@ returns c =
     let k = refused _ _ _ _ (answer .1 []) (asked .if1 .taken) in
     rw (
       c .aborted .ensures,
-      c .before .request-counts .ensures,
+      c .before .asked .ensures,
       ← asked .before .before .before .before .before .request-of .ensures,
       ← answer .0,
       asked .if1 .taken,
@@ -68,7 +68,7 @@ request-spec =
     request-of-requires
     request-requires
     rollback-requires
-    request-counts-requires
+    asked-requires
     aborted-requires
     returns
     mul-supplied

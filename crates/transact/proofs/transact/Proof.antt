@@ -13,15 +13,15 @@ add-status c = search needs
 element-copy-out-if1 : tie.Need-element-copy-out-if1
 element-copy-out-if1 c = search needs
 
-quiet-counts-requires : tie.Need-quiet-counts-requires
-quiet-counts-requires c κs = search needs
+quiet-requires : tie.Need-quiet-requires
+quiet-requires c κs = search needs
 
 aborted-requires : tie.Need-aborted-requires
 aborted-requires c κs = search needs
 
 returns : tie.Need-returns
 unfolding transact
-returns c = rw (eq-eqb _ _ (c .before .before .if1 .taken), c .aborted .ensures, c .before .quiet-counts .ensures)
+returns c = rw (eq-eqb _ _ (c .before .before .if1 .taken), c .aborted .ensures, c .before .quiet .ensures)
 
 drop-line-requires : tie.Need-drop-line-requires
 drop-line-requires c κs = search needs
@@ -42,7 +42,7 @@ transact-spec =
     element-write-flags
     add-status
     element-copy-out-if1
-    quiet-counts-requires
+    quiet-requires
     aborted-requires
     returns
     drop-line-requires

@@ -11,11 +11,8 @@ returns : tie.Need-returns
 unfolding opposes
 returns c = λ d e. rw (e, ← c .before .find-tentative .ensures, le-ltb _ _ (c .if1 .taken))
 
-mul-j : tie.Need-mul-j
-mul-j c = search needs
-
-add-j : tie.Need-add-j
-add-j c = search needs
+place-requires : tie.Need-place-requires
+place-requires c κs = search needs
 
 mul-unpack : tie.Need-mul-unpack
 mul-unpack c = search needs
@@ -32,8 +29,10 @@ against-requires c κs = search needs
 returns-2 : tie.Need-returns-2
 unfolding opposes
 returns-2 c =
-    let found = c .before .before .before in
-    λ d e. rw (e, ← found .before .find-tentative .ensures, lt-ltb _ _ (found .if1 .left), c .against .ensures, c .before .unpack .ensures)
+    let placed = c .before .before .before in
+    let found = placed .before in
+    let u = rw (placed .place .ensures) at (c .before .unpack .ensures) in
+    λ d e. rw (e, ← found .before .find-tentative .ensures, lt-ltb _ _ (found .if1 .left), c .against .ensures, u)
 
 pub opposing-spec : {M : Type 1} → statement M
 opposing-spec =
@@ -41,8 +40,7 @@ opposing-spec =
     (tie.spec
     find-tentative-requires
     returns
-    mul-j
-    add-j
+    place-requires
     mul-unpack
     element-copy-out-unpack
     unpack-requires

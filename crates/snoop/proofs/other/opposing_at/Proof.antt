@@ -3,11 +3,8 @@ use borrow.Author.Needs.{needs}
 use Rattle.snoop.proofs.other.opposing_at.Statement.{statement}
 use Rattle.snoop.proofs.other.opposing_at.Tie as tie
 
-mul-j : tie.Need-mul-j
-mul-j c = search needs
-
-add-j : tie.Need-add-j
-add-j c = search needs
+place-requires : tie.Need-place-requires
+place-requires c κs = search needs
 
 mul-unpack : tie.Need-mul-unpack
 mul-unpack c = search needs
@@ -29,9 +26,10 @@ against-requires c κs = search needs
 
 returns-2 : tie.Need-returns-2
 returns-2 c = λ d e.
-    let start = c .before .before .before .before .before in
+    let placed = c .before .before .before .before .before in
+    let start = placed .before in
     let x = start .args in
-    let u = c .before .before .before .unpack .ensures in
+    let u = rw (placed .place .ensures) at (c .before .before .before .unpack .ensures) in
     let t = rw u at (c .before .if1 .left) in
     let o = first-opposes d (x .n) e (x .p) (x .word) (x .cycle) _ (x .q) (x .first) (start .pre .0) (start .pre .1) t in
     rw (o, c .against .ensures, u)
@@ -40,8 +38,7 @@ pub opposing-at-spec : {M : Type 1} → statement M
 opposing-at-spec =
     tie.close
     (tie.spec
-    mul-j
-    add-j
+    place-requires
     mul-unpack
     element-copy-out-unpack
     unpack-requires

@@ -2,11 +2,8 @@ use borrow.Author.Needs.{needs}
 use Rattle.snoop.proofs.other.snoop_copy.Statement.{statement}
 use Rattle.snoop.proofs.other.snoop_copy.Tie as tie
 
-mul-j : tie.Need-mul-j
-mul-j c = search needs
-
-add-j : tie.Need-add-j
-add-j c = search needs
+place-requires : tie.Need-place-requires
+place-requires c κs = search needs
 
 mul-unpack : tie.Need-mul-unpack
 mul-unpack c = search needs
@@ -34,15 +31,15 @@ element-write-copies c = search needs
 
 returns : tie.Need-returns
 returns c =
-    let u = c .before .before .before .before .unpack .ensures in
-    (rw (c .before .before .write-back .ensures .0, u), rw (c .pack .ensures, c .before .snooped .ensures, u))
+    let j = c .before .before .before .before .before .before .place .ensures in
+    let u = rw j at (c .before .before .before .before .unpack .ensures) in
+    (rw (c .before .before .write-back .ensures .0, u), rw (j, c .pack .ensures, c .before .snooped .ensures, u))
 
 pub snoop-copy-spec : {M : Type 1} → statement M
 snoop-copy-spec =
     tie.close
     (tie.spec
-    mul-j
-    add-j
+    place-requires
     mul-unpack
     element-copy-out-unpack
     unpack-requires

@@ -3,11 +3,8 @@ use borrow.Author.Needs.{needs}
 use Rattle.snoop.proofs.other.snoop_line.Statement.{statement}
 use Rattle.snoop.proofs.other.snoop_line.Tie as tie
 
-mul-j : tie.Need-mul-j
-mul-j c = search needs
-
-add-j : tie.Need-add-j
-add-j c = search needs
+place-requires : tie.Need-place-requires
+place-requires c κs = search needs
 
 mul-unpack : tie.Need-mul-unpack
 mul-unpack c = search needs
@@ -28,19 +25,21 @@ returns : tie.Need-returns
 unfolding snoopLine
 returns c =
     let held = c .before .before .before in
-    let held-at = rw (held .before .before .unpack .ensures) at (held .before .holds .ensures) in
+    let u = rw (held .before .before .before .before .place .ensures) at (held .before .before .unpack .ensures) in
+    let held-at = rw u at (held .before .holds .ensures) in
     λ e f. rw (← held-at, held .if1 .taken, c .snoop-copy .ensures .0, c .snoop-copy .ensures .1)
 
 returns-2 : tie.Need-returns-2
 unfolding snoopLine
-returns-2 c = λ e f. rw (← (rw (c .before .before .unpack .ensures) at (c .before .holds .ensures)), c .if1 .left)
+returns-2 c =
+    let u = rw (c .before .before .before .before .place .ensures) at (c .before .before .unpack .ensures) in
+    λ e f. rw (← (rw u at (c .before .holds .ensures)), c .if1 .left)
 
 pub snoop-line-spec : {M : Type 1} → statement M
 snoop-line-spec =
     tie.close
     (tie.spec
-    mul-j
-    add-j
+    place-requires
     mul-unpack
     element-copy-out-unpack
     unpack-requires

@@ -1,4 +1,3 @@
-use borrow.Author.Tests.{not-true, not-false}
 use Rattle.rules.specs.Making.{dimsRefusal}
 use borrow.Author.Needs.{needs}
 use Rattle.sound.proofs.dims.dims_refusal.Statement.{statement}
@@ -7,81 +6,40 @@ use Rattle.sound.proofs.dims.dims_refusal.Tie as tie
 in-range-requires : tie.Need-in-range-requires
 in-range-requires c κs = search needs
 
-returns : tie.Need-returns
-unfolding dimsRefusal
-returns c = rw (← c .before .in-range .ensures, not-true (c .before .in-range .result) (c .if1 .taken))
-
 in-range-requires-2 : tie.Need-in-range-requires-2
 in-range-requires-2 c κs = search needs
-
-returns-2 : tie.Need-returns-2
-unfolding dimsRefusal
-returns-2 c =
-    let c1 = c .before .before .before in
-    rw (
-      ← c1 .in-range .ensures,
-      not-false (c1 .in-range .result) (c .before .before .if1 .left),
-      ← c .before .in-range2 .ensures,
-      not-true (c .before .in-range2 .result) (c .if2 .taken),
-    )
 
 is-power-requires : tie.Need-is-power-requires
 is-power-requires c κs = search needs
 
-returns-3 : tie.Need-returns-3
-unfolding dimsRefusal
-returns-3 c =
-    let c1 = c .before .before .before in
-    let c2 = c1 .before in
-    let c3 = c2 .before in
-    rw (
-      ← c3 .in-range .ensures,
-      not-false (c3 .in-range .result) (c2 .if1 .left),
-      ← c1 .in-range2 .ensures,
-      not-false (c1 .in-range2 .result) (c .before .before .if2 .left),
-      ← c .before .is-power .ensures,
-      not-true (c .before .is-power .result) (c .if3 .taken),
-    )
-
 in-range-requires-3 : tie.Need-in-range-requires-3
 in-range-requires-3 c κs = search needs
 
-returns-4 : tie.Need-returns-4
-unfolding dimsRefusal
-returns-4 c =
-    let c1 = c .before .before .before in
-    let c2 = c1 .before in
-    let c3 = c2 .before in
-    let c4 = c3 .before in
-    let c5 = c4 .before in
-    rw (
-      ← c5 .in-range .ensures,
-      not-false (c5 .in-range .result) (c4 .if1 .left),
-      ← c3 .in-range2 .ensures,
-      not-false (c3 .in-range2 .result) (c2 .if2 .left),
-      ← c1 .is-power .ensures,
-      not-false (c1 .is-power .result) (c .before .before .if3 .left),
-      ← c .before .in-range3 .ensures,
-      not-true (c .before .in-range3 .result) (c .if4 .taken),
-    )
+unless-requires : tie.Need-unless-requires
+unless-requires c κs = search needs
 
-returns-5 : tie.Need-returns-5
+unless-requires-2 : tie.Need-unless-requires-2
+unless-requires-2 c κs = search needs
+
+unless-requires-3 : tie.Need-unless-requires-3
+unless-requires-3 c κs = search needs
+
+unless-requires-4 : tie.Need-unless-requires-4
+unless-requires-4 c κs = search needs
+
+returns : tie.Need-returns
 unfolding dimsRefusal
-returns-5 c =
-    let c1 = c .before .before .before in
-    let c2 = c1 .before in
-    let c3 = c2 .before in
-    let c4 = c3 .before in
-    let c5 = c4 .before in
+returns c =
+    let tested = c .before .before .before .before in
     rw (
-      ← c5 .in-range .ensures,
-      not-false (c5 .in-range .result) (c4 .if1 .left),
-      ← c3 .in-range2 .ensures,
-      not-false (c3 .in-range2 .result) (c2 .if2 .left),
-      ← c1 .is-power .ensures,
-      not-false (c1 .is-power .result) (c .before .before .if3 .left),
-      ← c .before .in-range3 .ensures,
-      not-false (c .before .in-range3 .result) (c .if4 .left),
+      c .unless4 .ensures,
+      c .before .unless3 .ensures,
+      c .before .before .unless2 .ensures,
+      c .before .before .before .unless .ensures,
+      tested .before .before .before .in-range .ensures,
+      tested .before .before .in-range2 .ensures,
+      tested .before .is-power .ensures,
+      tested .in-range3 .ensures,
     )
 
 pub dims-refusal-spec : {M : Type 1} → statement M
@@ -89,11 +47,11 @@ dims-refusal-spec =
     tie.close
     (tie.spec
     in-range-requires
-    returns
     in-range-requires-2
-    returns-2
     is-power-requires
-    returns-3
     in-range-requires-3
-    returns-4
-    returns-5)
+    unless-requires
+    unless-requires-2
+    unless-requires-3
+    unless-requires-4
+    returns)

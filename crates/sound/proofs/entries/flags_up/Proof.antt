@@ -8,24 +8,20 @@ returns : tie.Need-returns
 unfolding flagsUp
 returns c = rw (ne-eqb _ _ (c .if1 .taken))
 
-element-copy-out-if2 : tie.Need-element-copy-out-if2
-element-copy-out-if2 c = search needs
-
-returns-2 : tie.Need-returns-2
-unfolding flagsUp
-returns-2 c = rw (eq-eqb _ _ (c .before .before .if1 .left), ne-eqb _ _ (c .if2 .taken))
-
 add-status : tie.Need-add-status
 add-status c = search needs
 
 element-copy-out-result : tie.Need-element-copy-out-result
 element-copy-out-result c = search needs
 
-returns-3 : tie.Need-returns-3
+element-copy-out-result-2 : tie.Need-element-copy-out-result-2
+element-copy-out-result-2 c = search needs
+
+returns-2 : tie.Need-returns-2
 unfolding flagsUp
-returns-3 c = rw (eq-eqb _ _ (c .before .before .before .if1 .left), eq-eqb _ _ (c .before .if2 .left))
+returns-2 c = rw (eq-eqb _ _ (c .before .before .if1 .left))
 
 pub flags-up-spec : {M : Type 1} → statement M
 flags-up-spec =
     tie.close
-    (tie.spec returns element-copy-out-if2 returns-2 add-status element-copy-out-result returns-3)
+    (tie.spec returns add-status element-copy-out-result element-copy-out-result-2 returns-2)

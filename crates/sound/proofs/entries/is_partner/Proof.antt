@@ -1,28 +1,9 @@
-use borrow.Author.Tests.{ne-eqb, eq-eqb}
+use mathlib.Core.Bool.{and-assoc}
 use Rattle.sound.proofs.entries.is_partner.Statement.{statement}
 use Rattle.sound.proofs.entries.is_partner.Tie as tie
 
 returns : tie.Need-returns
-returns c = rw (ne-eqb _ _ (c .if1 .taken))
-
-returns-2 : tie.Need-returns-2
-returns-2 c = rw (eq-eqb _ _ (c .before .before .if1 .left), ne-eqb _ _ (c .if2 .taken))
-
-returns-3 : tie.Need-returns-3
-returns-3 c =
-    rw (
-      eq-eqb _ _ (c .before .before .before .before .before .if1 .left),
-      eq-eqb _ _ (c .before .before .before .if2 .left),
-      ne-eqb _ _ (c .if3 .taken),
-    )
-
-returns-4 : tie.Need-returns-4
-returns-4 c =
-    rw (
-      eq-eqb _ _ (c .before .before .before .before .before .before .before .if1 .left),
-      eq-eqb _ _ (c .before .before .before .before .before .if2 .left),
-      eq-eqb _ _ (c .before .before .if3 .left),
-    )
+returns c = simp and-assoc
 
 pub is-partner-spec : {M : Type 1} → statement M
-is-partner-spec = tie.close (tie.spec returns returns-2 returns-3 returns-4)
+is-partner-spec = tie.close (tie.spec returns)
