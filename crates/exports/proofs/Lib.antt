@@ -1,4 +1,2 @@
-mod Back
 mod Copied
-pub mod Lengths
-pub mod Unique
+mod Tested

@@ -1,0 +1,46 @@
+use Rattle.exports.specs.Array.{arrayOf, blank}
+use borrow.Author.Needs.{needs}
+use Rattle.exports.proofs.array.put_machine.Statement.{statement}
+use Rattle.exports.proofs.array.put_machine.Tie as tie
+
+element-write-state : tie.Need-element-write-state
+element-write-state c = search needs
+
+element-write-state-2 : tie.Need-element-write-state-2
+element-write-state-2 c = search needs
+
+element-write-state-3 : tie.Need-element-write-state-3
+element-write-state-3 c = search needs
+
+element-write-state-4 : tie.Need-element-write-state-4
+element-write-state-4 c = search needs
+
+put-flags-requires : tie.Need-put-flags-requires
+put-flags-requires c κs = search needs
+
+put-memory-requires : tie.Need-put-memory-requires
+put-memory-requires c κs = search needs
+
+put-copies-requires : tie.Need-put-copies-requires
+put-copies-requires c κs = search needs
+
+put-copies-requires-2 : tie.Need-put-copies-requires-2
+put-copies-requires-2 c κs = search needs
+
+returns : tie.Need-returns
+unfolding arrayOf blank
+returns c = rw (c .put-copies2 .ensures, c .before .before .before .before .put-copies .ensures, c .before .before .before .before .before .before .before .before .put-memory .ensures, c .before .before .before .before .before .before .before .before .before .before .before .before .put-flags .ensures)
+
+pub put-machine-spec : {M : Type 1} → statement M
+put-machine-spec =
+    tie.close
+    (tie.spec
+    element-write-state
+    element-write-state-2
+    element-write-state-3
+    element-write-state-4
+    put-flags-requires
+    put-memory-requires
+    put-copies-requires
+    put-copies-requires-2
+    returns)
