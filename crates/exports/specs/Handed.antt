@@ -13,7 +13,7 @@ use Rattle.rules.specs.declared.Ran.{Ran}
 use Rattle.rules.specs.State.{cachesOf}
 use Rattle.rules.specs.Making.{makeOf}
 use Rattle.rules.specs.SoundTest.{soundOf}
-use Rattle.rules.specs.Step.{stepOf}
+use Rattle.rules.specs.Step.{stepOf, settleOf}
 use Rattle.rules.specs.Run.{Steps, Columns, runOf}
 use Rattle.exports.specs.Array.{machineIn, arrayOf, heldOk}
 
@@ -82,3 +82,8 @@ unfoldable pub runIn : List ℕ → Steps → Columns → Handed RunLent
 runIn s x c =
     let r = runOf (machineIn s) x c in
     unless (heldOk s) (handed notSound (runLent 0 s c)) (ranIn s (r .ran) (r .columns))
+
+unfoldable pub settleIn : List ℕ → List ℕ → Handed (List ℕ)
+settleIn s v =
+    let r = settleOf (machineIn s) in
+    unless (heldOk s) (handed notSound v) (handedBy (r .refusal) v (r .values))

@@ -3,3 +3,152 @@
 
 mod array;
 mod copying;
+
+use crate::array::held_ok;
+use crate::array::machine_of;
+use crate::array::put_machine;
+use crate::copying::put_told;
+use entry::refusals::ACCEPTED;
+use entry::refusals::NOT_SOUND;
+use entry::step::Step;
+ghost use mathlib.Core.Path.{_≡_};
+ghost use Rattle.entry.specs.Step.{step};
+ghost use Rattle.rules.specs.Making.{dims};
+ghost use Rattle.rules.specs.Lent.{before, after, lentSteps, columnsOf};
+ghost use Rattle.exports.specs.Handed.{handed, makeIn, soundIn, stepLent, stepIn, runLent, runIn, settleIn};
+
+// initial is the memory that the caller gives. What the array held before does not matter.
+#[no_mangle]
+pub extern "C" fn stirnfeld_make(
+    processors: usize,
+    words: usize,
+    lines: usize,
+    entries: usize,
+    initial: &[u32],
+    state: &mut [u64; 2048],
+) -> u8
+    ensures { λ r. ⌜ handed r (after state) ≡ makeIn (dims processors words lines entries) (before initial) (before state) ⌝ }
+{
+    let made = machine::make(processors, words, lines, entries, initial);
+    if made.refusal != ACCEPTED {
+        return made.refusal;
+    }
+    put_machine(state, made.machine);
+    ACCEPTED
+}
+
+#[no_mangle]
+pub extern "C" fn stirnfeld_sound(state: &[u64; 2048]) -> u8
+    ensures { λ r. ⌜ r ≡ soundIn (before state) ⌝ }
+{
+    if !held_ok(state) {
+        return NOT_SOUND;
+    }
+    let m = machine_of(state);
+    if machine::sound(m) {
+        return ACCEPTED;
+    }
+    NOT_SOUND
+}
+
+// told becomes the answer's number, its value, and the six counts.
+#[no_mangle]
+pub extern "C" fn stirnfeld_step(
+    state: &mut [u64; 2048],
+    op: u8,
+    core: u8,
+    word: u32,
+    value: u32,
+    told: &mut [u32; 8],
+) -> u8
+    ensures { λ r. ⌜ handed r (stepLent (after state) (after told)) ≡ stepIn (before state) (step op core word value) (before told) ⌝ }
+{
+    if !held_ok(state) {
+        return NOT_SOUND;
+    }
+    let m = machine_of(state);
+    let asked = Step {
+        op: op,
+        core: core as usize,
+        word: word,
+        value: value,
+    };
+    let stepped = machine::step(m, asked);
+    let answered = stepped.told;
+    let answer = answered.answer;
+    let refusal = answer.refusal();
+    if refusal != ACCEPTED {
+        return refusal;
+    }
+    put_machine(state, stepped.machine);
+    put_told(told, answered);
+    ACCEPTED
+}
+
+// The number of steps that were taken goes into taken; where the whole run is refused, 0.
+#[no_mangle]
+pub extern "C" fn stirnfeld_run(
+    state: &mut [u64; 2048],
+    ops: &[u8],
+    cores: &[u8],
+    used_words: &[u32],
+    values: &[u32],
+    answers: &mut [u8],
+    results: &mut [u32],
+    reads: &mut [u32],
+    rfos: &mut [u32],
+    writes: &mut [u32],
+    t_reads: &mut [u32],
+    t_rfos: &mut [u32],
+    busies: &mut [u32],
+    taken: &mut usize,
+) -> u8
+    ensures { λ r.
+        let c = columnsOf answers results reads rfos writes «t_reads» «t_rfos» busies in
+        ⌜ handed r (runLent (after taken) (after state) (c .exit)) ≡
+        runIn (before state) (lentSteps ops cores «used_words» values) (c .entry) ⌝ }
+{
+    if !held_ok(state) {
+        *taken = 0;
+        return NOT_SOUND;
+    }
+    let m = machine_of(state);
+    let ran = runs::run(
+        m,
+        ops,
+        cores,
+        used_words,
+        values,
+        answers,
+        results,
+        reads,
+        rfos,
+        writes,
+        t_reads,
+        t_rfos,
+        busies,
+    );
+    *taken = ran.taken;
+    if ran.taken != 0 {
+        put_machine(state, ran.machine);
+    }
+    ran.refusal
+}
+
+// values becomes every word's settled value, and 0 past the words.
+#[no_mangle]
+pub extern "C" fn stirnfeld_settle(state: &[u64; 2048], values: &mut [u32; 256]) -> u8
+    ensures { λ r. ⌜ handed r (after values) ≡ settleIn (before state) (before values) ⌝ }
+{
+    if !held_ok(state) {
+        return NOT_SOUND;
+    }
+    let m = machine_of(state);
+    let settled = machine::settle(m);
+    if settled.refusal != ACCEPTED {
+        return settled.refusal;
+    }
+    let all = settled.values;
+    *values = all;
+    ACCEPTED
+}

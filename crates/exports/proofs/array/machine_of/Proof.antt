@@ -1,6 +1,6 @@
-use Rattle.exports.proofs.Tested.{held-parts}
-use Rattle.exports.specs.Array.{machineIn}
 use borrow.Author.Needs.{needs}
+use Rattle.exports.specs.Array.{machineIn}
+use Rattle.exports.proofs.Tested.{held-parts}
 use Rattle.exports.proofs.array.machine_of.Statement.{statement}
 use Rattle.exports.proofs.array.machine_of.Tie as tie
 
@@ -30,7 +30,12 @@ element-copy-out-t21 c = search needs
 
 returns : tie.Need-returns
 unfolding machineIn
-returns c = rw (c .before .before .before .before .before .before .before .memory-of .ensures, c .before .before .before .before .before .before .copies-of .ensures, c .before .before .before .before .before .copies-of2 .ensures, c .before .before .before .before .flags-of .ensures)
+returns c =
+    let c1 = c .before .before .before .before in
+    let c2 = c1 .before in
+    let c3 = c2 .before in
+    let c4 = c3 .before in
+    rw (c4 .memory-of .ensures, c3 .copies-of .ensures, c2 .copies-of2 .ensures, c1 .flags-of .ensures)
 
 pub machine-of-spec : {M : Type 1} → statement M
 machine-of-spec =

@@ -1,7 +1,7 @@
-use Rattle.exports.proofs.Tested.{Same, above-hit, above-miss, above-end}
 use mathlib.Core.Path.{refl, sym}
 use Prim.Native.Nat.{_≤_, _-_}
 use borrow.Author.Needs.{needs}
+use Rattle.exports.proofs.Tested.{Same, above-hit, above-miss, above-end}
 use Rattle.exports.proofs.array.none_above.Statement.{statement}
 use Rattle.exports.proofs.array.none_above.Tie as tie
 
@@ -21,7 +21,10 @@ element-copy-out-if1 : tie.Need-element-copy-out-if1 Inv-loop μ-loop
 element-copy-out-if1 c = search needs
 
 returns : tie.Need-returns Inv-loop μ-loop
-returns c = sym (above-hit (c .before .before .before .before .args .state .now) (c .before .before .before .before .args .most) (c .before .before .before .before .args .from) (c .before .before .before .before .args .to) (c .before .before .before .loop .i) (search needs) (c .if1 .taken) (c .before .before .before .loop .inv .1))
+returns c =
+    let l = c .before .before .before .loop in
+    let x = c .before .before .before .before .args in
+    sym (above-hit (x .state .now) (x .most) (x .from) (x .to) (l .i) (search needs) (c .if1 .taken) (l .inv .1))
 
 add-i : tie.Need-add-i Inv-loop μ-loop
 add-i c = search needs
@@ -30,10 +33,18 @@ loop-less : tie.Need-loop-less Inv-loop μ-loop
 loop-less c = search needs
 
 loop-again : tie.Need-loop-again Inv-loop μ-loop
-loop-again c = (search needs, above-miss (c .before .before .before .before .args .state .now) (c .before .before .before .before .args .most) (c .before .before .before .before .args .from) (c .before .before .before .before .args .to) (c .before .before .before .loop .i) (search needs) (c .if1 .left) (c .before .before .before .loop .inv .1))
+loop-again c =
+    let l = c .before .before .before .loop in
+    let x = c .before .before .before .before .args in (
+      search needs,
+      above-miss (x .state .now) (x .most) (x .from) (x .to) (l .i) (search needs) (c .if1 .left) (l .inv .1),
+    )
 
 returns-2 : tie.Need-returns-2 Inv-loop μ-loop
-returns-2 c = sym (above-end (c .before .before .args .state .now) (c .before .before .args .most) (c .before .before .args .from) (c .before .before .args .to) (c .before .loop .i) (search needs) (search needs) (c .before .loop .inv .1))
+returns-2 c =
+    let l = c .before .loop in
+    let x = c .before .before .args in
+    sym (above-end (x .state .now) (x .most) (x .from) (x .to) (l .i) (search needs) (search needs) (l .inv .1))
 
 pub none-above-spec : {M : Type 1} → statement M
 none-above-spec =

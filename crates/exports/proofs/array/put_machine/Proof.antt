@@ -1,5 +1,5 @@
-use Rattle.exports.specs.Array.{arrayOf, blank}
 use borrow.Author.Needs.{needs}
+use Rattle.exports.specs.Array.{arrayOf, blank}
 use Rattle.exports.proofs.array.put_machine.Statement.{statement}
 use Rattle.exports.proofs.array.put_machine.Tie as tie
 
@@ -29,7 +29,11 @@ put-copies-requires-2 c κs = search needs
 
 returns : tie.Need-returns
 unfolding arrayOf blank
-returns c = rw (c .put-copies2 .ensures, c .before .before .before .before .put-copies .ensures, c .before .before .before .before .before .before .before .before .put-memory .ensures, c .before .before .before .before .before .before .before .before .before .before .before .before .put-flags .ensures)
+returns c =
+    let c1 = c .before .before .before .before in
+    let c2 = c1 .before .before .before .before in
+    let c3 = c2 .before .before .before .before in
+    rw (c .put-copies2 .ensures, c1 .put-copies .ensures, c2 .put-memory .ensures, c3 .put-flags .ensures)
 
 pub put-machine-spec : {M : Type 1} → statement M
 put-machine-spec =

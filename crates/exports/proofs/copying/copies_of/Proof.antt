@@ -1,20 +1,20 @@
-use Rattle.exports.proofs.Copied.{read-turn, read-end}
-use Rattle.exports.specs.Array.{part}
 use mathlib.Core.Path.{_≡_, refl, _∙_}
 use Prim.Native.Nat.{_≤_, _-_}
 use lib.ListN.{length, take, length-set}
 use borrow.Author.Needs.{needs}
+use Rattle.exports.specs.Array.{part}
+use Rattle.exports.proofs.Copied.{read-turn, read-end}
 use Rattle.exports.proofs.copying.copies_of.Statement.{statement}
 use Rattle.exports.proofs.copying.copies_of.Tie as tie
 
 abbrev Inv-loop : tie.InvT-loop
-Inv-loop state from whole₀ i₀ whole i = (i ≤ 512) × ((length whole ≡ 512) × (take i whole ≡ take i (part from 512 state)))
+Inv-loop state from whole₀ i₀ whole i = (i ≤ 512) × (length whole ≡ 512) × (take i whole ≡ take i (part from 512 state))
 
 abbrev μ-loop : tie.MeasureT-loop
 μ-loop state from whole₀ i₀ whole i = 512 - i
 
 loop-holds : tie.Need-loop-holds Inv-loop μ-loop
-loop-holds c = (search needs, (refl, refl))
+loop-holds c = (search needs, refl, refl)
 
 add-whole : tie.Need-add-whole Inv-loop μ-loop
 add-whole c = search needs
@@ -38,10 +38,19 @@ loop-less : tie.Need-loop-less Inv-loop μ-loop
 loop-less c = search needs
 
 loop-again : tie.Need-loop-again Inv-loop μ-loop
-loop-again c = (search needs, (length-set (c .before .before .loop .whole) _ _ ∙ c .before .before .loop .inv .1 .0, (read-turn (c .before .before .before .args .state .now) (c .before .before .loop .whole) (c .before .before .before .args .from) 512 (c .before .before .loop .i) (c .before .before .loop .inv .1 .1) (search needs) (search needs))))
+loop-again c =
+    let l = c .before .before .loop in
+    let x = c .before .before .before .args in (
+      search needs,
+      length-set (l .whole) _ _ ∙ l .inv .1,
+      read-turn (x .state .now) (l .whole) (x .from) 512 (l .i) (l .inv .2) (search needs) (search needs),
+    )
 
 returns : tie.Need-returns Inv-loop μ-loop
-returns c = read-end (c .before .before .args .state .now) (c .before .loop .whole) (c .before .before .args .from) 512 (c .before .loop .i) (c .before .loop .inv .1 .1) (search needs) (search needs)
+returns c =
+    let l = c .before .loop in
+    let x = c .before .before .args in
+    read-end (x .state .now) (l .whole) (x .from) 512 (l .i) (l .inv .2) (search needs) (search needs)
 
 pub copies-of-spec : {M : Type 1} → statement M
 copies-of-spec =

@@ -1,23 +1,22 @@
-use Rattle.exports.proofs.Tested.{none-above-at}
-use Rattle.exports.specs.Array.{flagsFrom}
-use Rattle.rules.specs.State.{trueFlag}
-use Rattle.exports.proofs.Copied.{read-turn, read-end}
-use Rattle.exports.specs.Array.{part}
 use mathlib.Core.Path.{_≡_, refl, _∙_}
 use Prim.Native.Nat.{_≤_, _-_}
 use lib.ListN.{length, take, length-set}
 use borrow.Author.Needs.{needs}
+use Rattle.exports.specs.Array.{flagsFrom, part}
+use Rattle.exports.proofs.Tested.{none-above-at}
+use Rattle.rules.specs.State.{trueFlag}
+use Rattle.exports.proofs.Copied.{read-turn, read-end}
 use Rattle.exports.proofs.copying.flags_of.Statement.{statement}
 use Rattle.exports.proofs.copying.flags_of.Tie as tie
 
 abbrev Inv-loop : tie.InvT-loop
-Inv-loop state whole₀ i₀ whole i = (i ≤ 16) × ((length whole ≡ 16) × (take i whole ≡ take i (part 16 16 state)))
+Inv-loop state whole₀ i₀ whole i = (i ≤ 16) × (length whole ≡ 16) × (take i whole ≡ take i (part 16 16 state))
 
 abbrev μ-loop : tie.MeasureT-loop
 μ-loop state whole₀ i₀ whole i = 16 - i
 
 loop-holds : tie.Need-loop-holds Inv-loop μ-loop
-loop-holds c = (search needs, (refl, refl))
+loop-holds c = (search needs, refl, refl)
 
 add-narrow-flag : tie.Need-add-narrow-flag Inv-loop μ-loop
 add-narrow-flag c = search needs
@@ -29,7 +28,9 @@ element-copy-out-narrow-flag : tie.Need-element-copy-out-narrow-flag Inv-loop μ
 element-copy-out-narrow-flag c = search needs
 
 narrow-flag-requires : tie.Need-narrow-flag-requires Inv-loop μ-loop
-narrow-flag-requires c κs = none-above-at (c .before .before .before .args .state .now) trueFlag flagsFrom 32 (search needs) (c .before .before .before .pre) _ (search needs) (search needs)
+narrow-flag-requires c κs =
+    let c1 = c .before .before .before in
+    none-above-at (c1 .args .state .now) trueFlag flagsFrom 32 (search needs) (c1 .pre) _ (search needs) (search needs)
 
 array-write-whole : tie.Need-array-write-whole Inv-loop μ-loop
 array-write-whole c = search needs
@@ -41,10 +42,20 @@ loop-less : tie.Need-loop-less Inv-loop μ-loop
 loop-less c = search needs
 
 loop-again : tie.Need-loop-again Inv-loop μ-loop
-loop-again c = (search needs, (length-set (c .before .before .before .loop .whole) _ _ ∙ c .before .before .before .loop .inv .1 .0, rw (c .narrow-flag .ensures) (read-turn (c .before .before .before .before .args .state .now) (c .before .before .before .loop .whole) 16 16 (c .before .before .before .loop .i) (c .before .before .before .loop .inv .1 .1) (search needs) (search needs))))
+loop-again c =
+    let l = c .before .before .before .loop in
+    let s = c .before .before .before .before .args .state .now in (
+      search needs,
+      length-set (l .whole) _ _ ∙ l .inv .1,
+      rw (c .narrow-flag .ensures)
+          (read-turn s (l .whole) 16 16 (l .i) (l .inv .2) (search needs) (search needs)),
+    )
 
 returns : tie.Need-returns Inv-loop μ-loop
-returns c = read-end (c .before .before .args .state .now) (c .before .loop .whole) 16 16 (c .before .loop .i) (c .before .loop .inv .1 .1) (search needs) (search needs)
+returns c =
+    let l = c .before .loop in
+    let x = c .before .before .args in
+    read-end (x .state .now) (l .whole) 16 16 (l .i) (l .inv .2) (search needs) (search needs)
 
 pub flags-of-spec : {M : Type 1} → statement M
 flags-of-spec =

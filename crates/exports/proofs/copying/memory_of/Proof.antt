@@ -1,22 +1,21 @@
-use Rattle.exports.proofs.Tested.{none-above-at}
-use Rattle.exports.specs.Array.{mostValue, memoryFrom, linesFrom}
-use Rattle.exports.proofs.Copied.{read-turn, read-end}
-use Rattle.exports.specs.Array.{part}
 use mathlib.Core.Path.{_≡_, refl, _∙_}
 use Prim.Native.Nat.{_≤_, _-_}
 use lib.ListN.{length, take, length-set}
 use borrow.Author.Needs.{needs}
+use Rattle.exports.specs.Array.{mostValue, memoryFrom, linesFrom, part}
+use Rattle.exports.proofs.Tested.{none-above-at}
+use Rattle.exports.proofs.Copied.{read-turn, read-end}
 use Rattle.exports.proofs.copying.memory_of.Statement.{statement}
 use Rattle.exports.proofs.copying.memory_of.Tie as tie
 
 abbrev Inv-loop : tie.InvT-loop
-Inv-loop state whole₀ i₀ whole i = (i ≤ 256) × ((length whole ≡ 256) × (take i whole ≡ take i (part 256 256 state)))
+Inv-loop state whole₀ i₀ whole i = (i ≤ 256) × (length whole ≡ 256) × (take i whole ≡ take i (part 256 256 state))
 
 abbrev μ-loop : tie.MeasureT-loop
 μ-loop state whole₀ i₀ whole i = 256 - i
 
 loop-holds : tie.Need-loop-holds Inv-loop μ-loop
-loop-holds c = (search needs, (refl, refl))
+loop-holds c = (search needs, refl, refl)
 
 add-narrow-value : tie.Need-add-narrow-value Inv-loop μ-loop
 add-narrow-value c = search needs
@@ -28,7 +27,9 @@ element-copy-out-narrow-value : tie.Need-element-copy-out-narrow-value Inv-loop 
 element-copy-out-narrow-value c = search needs
 
 narrow-value-requires : tie.Need-narrow-value-requires Inv-loop μ-loop
-narrow-value-requires c κs = none-above-at (c .before .before .before .args .state .now) mostValue memoryFrom linesFrom (search needs) (c .before .before .before .pre) _ (search needs) (search needs)
+narrow-value-requires c κs =
+    let c1 = c .before .before .before in
+    none-above-at (c1 .args .state .now) mostValue memoryFrom linesFrom (search needs) (c1 .pre) _ (search needs) (search needs)
 
 mul-whole : tie.Need-mul-whole Inv-loop μ-loop
 mul-whole c = search needs
@@ -43,10 +44,20 @@ loop-less : tie.Need-loop-less Inv-loop μ-loop
 loop-less c = search needs
 
 loop-again : tie.Need-loop-again Inv-loop μ-loop
-loop-again c = (search needs, (length-set (c .before .before .before .loop .whole) _ _ ∙ c .before .before .before .loop .inv .1 .0, rw (c .narrow-value .ensures) (read-turn (c .before .before .before .before .args .state .now) (c .before .before .before .loop .whole) 256 256 (c .before .before .before .loop .i) (c .before .before .before .loop .inv .1 .1) (search needs) (search needs))))
+loop-again c =
+    let l = c .before .before .before .loop in
+    let s = c .before .before .before .before .args .state .now in (
+      search needs,
+      length-set (l .whole) _ _ ∙ l .inv .1,
+      rw (c .narrow-value .ensures)
+          (read-turn s (l .whole) 256 256 (l .i) (l .inv .2) (search needs) (search needs)),
+    )
 
 returns : tie.Need-returns Inv-loop μ-loop
-returns c = read-end (c .before .before .args .state .now) (c .before .loop .whole) 256 256 (c .before .loop .i) (c .before .loop .inv .1 .1) (search needs) (search needs)
+returns c =
+    let l = c .before .loop in
+    let x = c .before .before .args in
+    read-end (x .state .now) (l .whole) 256 256 (l .i) (l .inv .2) (search needs) (search needs)
 
 pub memory-of-spec : {M : Type 1} → statement M
 memory-of-spec =

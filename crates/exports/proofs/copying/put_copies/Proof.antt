@@ -1,9 +1,9 @@
-use Rattle.exports.proofs.Copied.{put-turn, put-end}
 use mathlib.Core.Path.{_≡_, refl}
 use Prim.Native.Nat.{_≤_, _-_}
 use lib.ListN.{take}
 use lib.Seq.{sets}
 use borrow.Author.Needs.{needs}
+use Rattle.exports.proofs.Copied.{put-turn, put-end}
 use Rattle.exports.proofs.copying.put_copies.Statement.{statement}
 use Rattle.exports.proofs.copying.put_copies.Tie as tie
 
@@ -38,10 +38,18 @@ loop-less : tie.Need-loop-less Inv-loop μ-loop
 loop-less c = search needs
 
 loop-again : tie.Need-loop-again Inv-loop μ-loop
-loop-again c = (search needs, (put-turn (c .before .before .before .args .state .now) (c .before .before .before .args .whole .now) (c .before .before .loop .state) (c .before .before .before .args .from) (c .before .before .loop .i) (c .before .before .loop .inv .1) (search needs)))
+loop-again c =
+    let l = c .before .before .loop in
+    let x = c .before .before .before .args in (
+      search needs,
+      put-turn (x .state .now) (x .whole .now) (l .state) (x .from) (l .i) (l .inv .1) (search needs),
+    )
 
 returns : tie.Need-returns Inv-loop μ-loop
-returns c = put-end (c .before .before .args .state .now) (c .before .before .args .whole .now) (c .before .loop .state) (c .before .before .args .from) (c .before .loop .i) (c .before .loop .inv .1) (search needs)
+returns c =
+    let l = c .before .loop in
+    let x = c .before .before .args in
+    put-end (x .state .now) (x .whole .now) (l .state) (x .from) (l .i) (l .inv .1) (search needs)
 
 pub put-copies-spec : {M : Type 1} → statement M
 put-copies-spec =
