@@ -1,3 +1,4 @@
 pub mod Back
 mod Copied
 mod Tested
+pub mod Unique
