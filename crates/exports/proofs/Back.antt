@@ -5,6 +5,7 @@ use mathlib.Core.List.{List, [], _∷_}
 use Prim.Native.Nat.{ℕ, zero, suc, _+_, _-_, _<_, _≤_}
 use native.Mathlib.Omega.{arith}
 use native.Mathlib.Nat.{add-zero, add-suc, suc-add, zero-add}
+use native.Mathlib.Decide.{decLt}
 use lib.ListN.{length, getD, set, length-set, length-replicate, getD-replicate}
 use lib.Seq.{sets, length-sets, ext-getD, getD-set-same, getD-set-other}
 use Rattle.laws.specs.Choice.{both-true}
@@ -13,7 +14,7 @@ use Rattle.rules.specs.State.{Caches, cachesOf, trueFlag}
 use Rattle.rules.specs.Sound.{Lengths}
 use Rattle.exports.specs.Array.{flagsFrom, memoryFrom, linesFrom, entriesFrom, part, machineIn, blank, arrayOf, noneAbove, mostValue, heldOk}
 use Rattle.exports.proofs.Copied.{part-length, part-at}
-use Rattle.exports.proofs.Tested.{none-above-of}
+use Rattle.exports.proofs.Tested.{none-above-at, none-above-of, held-parts}
 
 -- a place before what is written, after it, and in it
 pub sets-before : (s l : List ℕ) (at k : ℕ) → k < at → getD (sets s at l) k 0 ≡ getD s k 0
@@ -89,7 +90,11 @@ module _ (m : Machine) (h : Lengths (cachesOf m)) where
   lined-length : length lined ≡ 2048
   lined-length = length-sets remembering linesFrom (m .lines) ∙ remembering-length
 
-  -- what stands before the lines, and before memory
+  pub array-length : length (arrayOf m) ≡ 2048
+  unfolding arrayOf
+  array-length = length-sets lined entriesFrom (m .entries) ∙ lined-length
+
+  -- what stands before the lines, before memory, and before the flags
   before-lines : (k : ℕ) → k < linesFrom → getD whole k 0 ≡ getD remembering k 0
   before-lines k l =
       sets-before lined (m .entries) entriesFrom k (omega arith) ∙ sets-before remembering (m .lines) linesFrom k l
@@ -188,3 +193,62 @@ module _ (m : Machine) (h : Lengths (cachesOf m)) where
       memory-in k a b =
           let e : memoryFrom + (k - memoryFrom) ≡ k = omega arith in
           rw (← e) (omega (arith, word-back (k - memoryFrom) (omega arith), w (k - memoryFrom) (omega arith)))
+
+-- a place of a part in which two arrays agree
+part-same : (a b : List ℕ) (from n k : ℕ) → part from n a ≡ part from n b → from ≤ k → k < from + n → getD a k 0 ≡ getD b k 0
+part-same a b from n k h l t =
+    let e : from + (k - from) ≡ k = omega arith in
+    let i : k - from < n = omega arith in
+    rw (← e) (sym (part-at from n a (k - from) i) ∙ ap (λ (p : List ℕ). getD p (k - from) 0) h ∙ part-at from n b (k - from) i)
+
+first-four : (s : List ℕ) (k : ℕ) → k < 4 → getD (getD s 0 0 ∷ getD s 1 0 ∷ getD s 2 0 ∷ getD s 3 0 ∷ []) k 0 ≡ getD s k 0
+first-four s zero h = refl
+first-four s (suc zero) h = refl
+first-four s (suc (suc zero)) h = refl
+first-four s (suc (suc (suc zero))) h = refl
+first-four s (suc (suc (suc (suc k)))) h = absurd (omega arith)
+
+-- an array that passes the test is the one that holds its machine
+module _ (s : List ℕ) (long : length s ≡ 2048) (ok : heldOk s ≡ true) where
+  in-lengths : Lengths (cachesOf (machineIn s))
+  unfolding machineIn
+  in-lengths = record {
+    memory = part-length memoryFrom 256 s;
+    lines = part-length linesFrom 512 s;
+    entries = part-length entriesFrom 512 s;
+    flags = part-length flagsFrom 16 s;
+  }
+
+  same-at : (k : ℕ) → k < 2048 → getD (arrayOf (machineIn s)) k 0 ≡ getD s k 0
+  unfolding machineIn arrayOf
+  same-at k b =
+      by (decLt k 4) (decLt k flagsFrom) (decLt k 32) (decLt k memoryFrom) (decLt k linesFrom) (decLt k entriesFrom) (decLt k 1536)
+    where
+      m : Machine
+      m = machineIn s
+
+      zero-at : (from to : ℕ) → noneAbove 0 from to s ≡ true → from ≤ k → k < to → 0 ≡ getD s k 0
+      zero-at from to t l r = omega (arith, none-above-at s 0 from to (omega arith) t k l r)
+
+      by : Dec (k < 4) → Dec (k < flagsFrom) → Dec (k < 32) → Dec (k < memoryFrom) → Dec (k < linesFrom) → Dec (k < entriesFrom) →
+          Dec (k < 1536) → getD (arrayOf m) k 0 ≡ getD s k 0
+      by (yes a) c d e f g h = size-at m in-lengths k a ∙ first-four s k a
+      by (no a) (yes c) d e f g h =
+          between-sizes m in-lengths k (omega arith) c ∙ zero-at 4 flagsFrom (held-parts s ok .0) (omega arith) c
+      by (no a) (no c) (yes d) e f g h =
+          part-same (arrayOf m) s flagsFrom 16 k (flags-back m in-lengths) (omega arith) (omega arith)
+      by (no a) (no c) (no d) (yes e) f g h =
+          between-flags m in-lengths k (omega arith) e ∙ zero-at 32 memoryFrom (held-parts s ok .2) (omega arith) e
+      by (no a) (no c) (no d) (no e) (yes f) g h =
+          part-same (arrayOf m) s memoryFrom 256 k (memory-back m in-lengths) (omega arith) (omega arith)
+      by (no a) (no c) (no d) (no e) (no f) (yes g) h =
+          part-same (arrayOf m) s linesFrom 512 k (lines-back m in-lengths) (omega arith) (omega arith)
+      by (no a) (no c) (no d) (no e) (no f) (no g) (yes h) =
+          part-same (arrayOf m) s entriesFrom 512 k (entries-back m in-lengths) (omega arith) (omega arith)
+      by (no a) (no c) (no d) (no e) (no f) (no g) (no h) =
+          past-entries m in-lengths k (omega arith) b ∙ zero-at 1536 2048 (held-parts s ok .4) (omega arith) b
+
+  pub array-back : arrayOf (machineIn s) ≡ s
+  array-back =
+      ext-getD 0 (arrayOf (machineIn s)) s (array-length (machineIn s) in-lengths ∙ sym long)
+      (λ k b. same-at k (omega (arith, array-length (machineIn s) in-lengths)))

@@ -43,15 +43,18 @@ module _ (s : List ℕ) (most from to : ℕ) where
       eq-eqb found to
       (omega (arith, none-of (above most s) from (to - from) (λ k a b. le-ltb most (getD s k 0) (f k a (omega arith)))))
 
--- five tests as one: the second and the fourth
-second-fourth : (a b c d e : Bool) → both a (both b (both c (both d e))) ≡ true → (b ≡ true) × (d ≡ true)
-second-fourth a b c d e h =
-    let k = both-right a (both b (both c (both d e))) h in
-    (both-left b (both c (both d e)) k, both-left d e (both-right c (both d e) (both-right b (both c (both d e)) k)))
+-- five tests as one
+each-of-five : (a b c d e : Bool) → both a (both b (both c (both d e))) ≡ true →
+    (a ≡ true) × (b ≡ true) × (c ≡ true) × (d ≡ true) × (e ≡ true)
+each-of-five a b c d e h =
+    let i = both-right a (both b (both c (both d e))) h in
+    let j = both-right b (both c (both d e)) i in
+    let k = both-right c (both d e) j in
+    (both-left a (both b (both c (both d e))) h, both-left b (both c (both d e)) i, both-left c (both d e) j, both-left d e k, both-right d e k)
 
--- what a machine's flags and memory ask of the array
+-- what the test of an array says of its places
 pub held-parts : (s : List ℕ) → heldOk s ≡ true →
-    (noneAbove trueFlag flagsFrom 32 s ≡ true) × (noneAbove mostValue memoryFrom linesFrom s ≡ true)
+    (noneAbove 0 4 flagsFrom s ≡ true) × (noneAbove trueFlag flagsFrom 32 s ≡ true) × (noneAbove 0 32 memoryFrom s ≡ true) ×
+    (noneAbove mostValue memoryFrom linesFrom s ≡ true) × (noneAbove 0 1536 2048 s ≡ true)
 unfolding heldOk
-held-parts s h =
-    second-fourth (noneAbove 0 4 flagsFrom s) _ (noneAbove 0 32 memoryFrom s) _ (noneAbove 0 1536 2048 s) h
+held-parts s h = each-of-five _ _ _ _ _ h

@@ -5,7 +5,7 @@ use Rattle.exports.proofs.array.machine_of.Statement.{statement}
 use Rattle.exports.proofs.array.machine_of.Tie as tie
 
 memory-of-requires : tie.Need-memory-of-requires
-memory-of-requires c κs = held-parts _ (c .pre) .1
+memory-of-requires c κs = held-parts _ (c .pre) .3
 
 copies-of-requires : tie.Need-copies-of-requires
 copies-of-requires c κs = search needs
@@ -14,7 +14,7 @@ copies-of-requires-2 : tie.Need-copies-of-requires-2
 copies-of-requires-2 c κs = search needs
 
 flags-of-requires : tie.Need-flags-of-requires
-flags-of-requires c κs = held-parts _ (c .before .before .before .pre) .0
+flags-of-requires c κs = held-parts _ (c .before .before .before .pre) .1
 
 element-copy-out-t9 : tie.Need-element-copy-out-t9
 element-copy-out-t9 c = search needs
