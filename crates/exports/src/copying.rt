@@ -1,6 +1,7 @@
 // Parts of the array copied into a machine's arrays, and back.
 
-use entry::answer::Answered;
+use entry::answer::Answer;
+use entry::answer::Counts;
 use rules::Copies;
 use rules::Flags;
 use rules::Memory;
@@ -9,6 +10,7 @@ ghost use mathlib.Core.Bool.{true};
 ghost use Prim.Native.Nat.{_+_, _≤_};
 ghost use lib.ListN.{length};
 ghost use lib.Seq.{sets};
+ghost use Rattle.entry.specs.Answer.{answered};
 ghost use Rattle.rules.specs.State.{trueFlag};
 ghost use Rattle.rules.specs.Lent.{before, after};
 ghost use Rattle.exports.specs.Array.{flagsFrom, memoryFrom, linesFrom, part, noneAbove, mostValue};
@@ -112,11 +114,9 @@ pub(crate) fn put_copies(state: &mut [u64; 2048], from: usize, whole: &Copies)
     }
 }
 
-pub(crate) fn put_told(told: &mut [u32; 8], a: Answered)
-    ensures { λ r. ⌜ after told ≡ toldBy a ⌝ }
+pub(crate) fn put_told(told: &mut [u32; 8], answer: Answer, counts: Counts)
+    ensures { λ r. ⌜ after told ≡ toldBy (answered answer counts) ⌝ }
 {
-    let answer = a.answer;
-    let counts = a.counts;
     *told = [
         answer.number() as u32,
         answer.value(),

@@ -81,7 +81,7 @@ pub extern "C" fn stirnfeld_step(
         return refusal;
     }
     put_machine(state, stepped.machine);
-    put_told(told, answered);
+    put_told(told, answer, answered.counts);
     ACCEPTED
 }
 
