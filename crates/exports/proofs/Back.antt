@@ -12,7 +12,7 @@ use Rattle.laws.specs.Choice.{both-true}
 use Rattle.rules.specs.declared.Machine.{Machine}
 use Rattle.rules.specs.State.{Caches, cachesOf, trueFlag}
 use Rattle.rules.specs.Sound.{Lengths}
-use Rattle.exports.specs.Array.{flagsFrom, memoryFrom, linesFrom, entriesFrom, part, machineIn, blank, arrayOf, noneAbove, mostValue, heldOk}
+use Rattle.exports.specs.Array.{flagsFrom, flagsEnd, memoryFrom, linesFrom, entriesFrom, entriesEnd, stateEnd, part, machineIn, blank, arrayOf, noneAbove, mostValue, heldOk}
 use Rattle.exports.proofs.Copied.{part-length, part-at}
 use Rattle.exports.proofs.Tested.{none-above-at, none-above-of, held-parts}
 
@@ -50,13 +50,13 @@ part-before s l from n at h =
     let k : i < n = omega (arith, part-length from n (sets s at l)) in
     part-at from n (sets s at l) i k ∙ sets-before s l at (from + i) (omega arith) ∙ sym (part-at from n s i k))
 
-blank-length : length blank ≡ 2048
+blank-length : length blank ≡ stateEnd
 unfolding blank
-blank-length = length-replicate {A = ℕ} 2048 0
+blank-length = length-replicate {A = ℕ} stateEnd 0
 
-blank-at : (k : ℕ) → k < 2048 → getD blank k 0 ≡ 0
+blank-at : (k : ℕ) → k < stateEnd → getD blank k 0 ≡ 0
 unfolding blank
-blank-at k h = getD-replicate {A = ℕ} 2048 k 0 0 h
+blank-at k h = getD-replicate {A = ℕ} stateEnd k 0 0 h
 
 module _ (m : Machine) (h : Lengths (cachesOf m)) where
   -- the array as its parts are written, each over those before it
@@ -78,19 +78,19 @@ module _ (m : Machine) (h : Lengths (cachesOf m)) where
   abbrev whole : List ℕ
   whole = sets lined entriesFrom (m .entries)
 
-  sized-length : length sized ≡ 2048
+  sized-length : length sized ≡ stateEnd
   sized-length = length-sets blank 0 sizes ∙ blank-length
 
-  flagged-length : length flagged ≡ 2048
+  flagged-length : length flagged ≡ stateEnd
   flagged-length = length-sets sized flagsFrom (m .flags) ∙ sized-length
 
-  remembering-length : length remembering ≡ 2048
+  remembering-length : length remembering ≡ stateEnd
   remembering-length = length-sets flagged memoryFrom (m .memory) ∙ flagged-length
 
-  lined-length : length lined ≡ 2048
+  lined-length : length lined ≡ stateEnd
   lined-length = length-sets remembering linesFrom (m .lines) ∙ remembering-length
 
-  pub array-length : length (arrayOf m) ≡ 2048
+  pub array-length : length (arrayOf m) ≡ stateEnd
   unfolding arrayOf
   array-length = length-sets lined entriesFrom (m .entries) ∙ lined-length
 
@@ -151,14 +151,14 @@ module _ (m : Machine) (h : Lengths (cachesOf m)) where
   between-sizes : (k : ℕ) → 4 ≤ k → k < flagsFrom → getD whole k 0 ≡ 0
   between-sizes k a b = before-flags k b ∙ sets-after blank sizes 0 k (omega arith) ∙ blank-at k (omega arith)
 
-  between-flags : (k : ℕ) → 32 ≤ k → k < memoryFrom → getD whole k 0 ≡ 0
+  between-flags : (k : ℕ) → flagsEnd ≤ k → k < memoryFrom → getD whole k 0 ≡ 0
   between-flags k a b =
       before-memory k b ∙
       sets-after sized (m .flags) flagsFrom k (omega (arith, h .flags)) ∙
       sets-after blank sizes 0 k (omega arith) ∙
       blank-at k (omega arith)
 
-  past-entries : (k : ℕ) → 1536 ≤ k → k < 2048 → getD whole k 0 ≡ 0
+  past-entries : (k : ℕ) → entriesEnd ≤ k → k < stateEnd → getD whole k 0 ≡ 0
   past-entries k a b =
       sets-after lined (m .entries) entriesFrom k (omega (arith, h .entries)) ∙
       sets-after remembering (m .lines) linesFrom k (omega (arith, h .lines)) ∙
@@ -179,12 +179,12 @@ module _ (m : Machine) (h : Lengths (cachesOf m)) where
   unfolding heldOk arrayOf
   held-back f w =
       both-true _ _ (none-above-of whole 0 4 flagsFrom (omega arith) (λ k a b. omega (arith, between-sizes k a b)))
-      (both-true _ _ (none-above-of whole trueFlag flagsFrom 32 (omega arith) flags-in)
-      (both-true _ _ (none-above-of whole 0 32 memoryFrom (omega arith) (λ k a b. omega (arith, between-flags k a b)))
+      (both-true _ _ (none-above-of whole trueFlag flagsFrom flagsEnd (omega arith) flags-in)
+      (both-true _ _ (none-above-of whole 0 flagsEnd memoryFrom (omega arith) (λ k a b. omega (arith, between-flags k a b)))
       (both-true _ _ (none-above-of whole mostValue memoryFrom linesFrom (omega arith) memory-in)
-      (none-above-of whole 0 1536 2048 (omega arith) (λ k a b. omega (arith, past-entries k a b))))))
+      (none-above-of whole 0 entriesEnd stateEnd (omega arith) (λ k a b. omega (arith, past-entries k a b))))))
     where
-      flags-in : (k : ℕ) → flagsFrom ≤ k → k < 32 → getD whole k 0 ≤ trueFlag
+      flags-in : (k : ℕ) → flagsFrom ≤ k → k < flagsEnd → getD whole k 0 ≤ trueFlag
       flags-in k a b =
           let e : flagsFrom + (k - flagsFrom) ≡ k = omega arith in
           rw (← e) (omega (arith, flag-back (k - flagsFrom) (omega arith), f (k - flagsFrom) (omega arith)))
@@ -209,7 +209,7 @@ first-four s (suc (suc (suc zero))) h = refl
 first-four s (suc (suc (suc (suc k)))) h = absurd (omega arith)
 
 -- an array that passes the test is the one that holds its machine
-module _ (s : List ℕ) (long : length s ≡ 2048) (ok : heldOk s ≡ true) where
+module _ (s : List ℕ) (long : length s ≡ stateEnd) (ok : heldOk s ≡ true) where
   in-lengths : Lengths (cachesOf (machineIn s))
   unfolding machineIn
   in-lengths = record {
@@ -219,10 +219,10 @@ module _ (s : List ℕ) (long : length s ≡ 2048) (ok : heldOk s ≡ true) wher
     flags = part-length flagsFrom 16 s;
   }
 
-  same-at : (k : ℕ) → k < 2048 → getD (arrayOf (machineIn s)) k 0 ≡ getD s k 0
+  same-at : (k : ℕ) → k < stateEnd → getD (arrayOf (machineIn s)) k 0 ≡ getD s k 0
   unfolding machineIn arrayOf
   same-at k b =
-      by (decLt k 4) (decLt k flagsFrom) (decLt k 32) (decLt k memoryFrom) (decLt k linesFrom) (decLt k entriesFrom) (decLt k 1536)
+      by (decLt k 4) (decLt k flagsFrom) (decLt k flagsEnd) (decLt k memoryFrom) (decLt k linesFrom) (decLt k entriesFrom) (decLt k entriesEnd)
     where
       m : Machine
       m = machineIn s
@@ -230,15 +230,15 @@ module _ (s : List ℕ) (long : length s ≡ 2048) (ok : heldOk s ≡ true) wher
       zero-at : (from to : ℕ) → noneAbove 0 from to s ≡ true → from ≤ k → k < to → 0 ≡ getD s k 0
       zero-at from to t l r = omega (arith, none-above-at s 0 from to (omega arith) t k l r)
 
-      by : Dec (k < 4) → Dec (k < flagsFrom) → Dec (k < 32) → Dec (k < memoryFrom) → Dec (k < linesFrom) → Dec (k < entriesFrom) →
-          Dec (k < 1536) → getD (arrayOf m) k 0 ≡ getD s k 0
+      by : Dec (k < 4) → Dec (k < flagsFrom) → Dec (k < flagsEnd) → Dec (k < memoryFrom) → Dec (k < linesFrom) → Dec (k < entriesFrom) →
+          Dec (k < entriesEnd) → getD (arrayOf m) k 0 ≡ getD s k 0
       by (yes a) c d e f g h = size-at m in-lengths k a ∙ first-four s k a
       by (no a) (yes c) d e f g h =
           between-sizes m in-lengths k (omega arith) c ∙ zero-at 4 flagsFrom (held-parts s ok .0) (omega arith) c
       by (no a) (no c) (yes d) e f g h =
           part-same (arrayOf m) s flagsFrom 16 k (flags-back m in-lengths) (omega arith) (omega arith)
       by (no a) (no c) (no d) (yes e) f g h =
-          between-flags m in-lengths k (omega arith) e ∙ zero-at 32 memoryFrom (held-parts s ok .2) (omega arith) e
+          between-flags m in-lengths k (omega arith) e ∙ zero-at flagsEnd memoryFrom (held-parts s ok .2) (omega arith) e
       by (no a) (no c) (no d) (no e) (yes f) g h =
           part-same (arrayOf m) s memoryFrom 256 k (memory-back m in-lengths) (omega arith) (omega arith)
       by (no a) (no c) (no d) (no e) (no f) (yes g) h =
@@ -246,7 +246,7 @@ module _ (s : List ℕ) (long : length s ≡ 2048) (ok : heldOk s ≡ true) wher
       by (no a) (no c) (no d) (no e) (no f) (no g) (yes h) =
           part-same (arrayOf m) s entriesFrom 512 k (entries-back m in-lengths) (omega arith) (omega arith)
       by (no a) (no c) (no d) (no e) (no f) (no g) (no h) =
-          past-entries m in-lengths k (omega arith) b ∙ zero-at 1536 2048 (held-parts s ok .4) (omega arith) b
+          past-entries m in-lengths k (omega arith) b ∙ zero-at entriesEnd stateEnd (held-parts s ok .4) (omega arith) b
 
   pub array-back : arrayOf (machineIn s) ≡ s
   array-back =

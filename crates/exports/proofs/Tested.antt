@@ -10,7 +10,7 @@ use borrow.Author.Tests.{lt-ltb, le-ltb, ltb-false, eq-eqb, ne-eqb, eqb-true}
 use Rattle.laws.specs.Choice.{both, both-left, both-right}
 use Rattle.laws.specs.Search.{firstFrom, first-end, first-hit, first-miss, none-at, none-of}
 use Rattle.rules.specs.State.{trueFlag}
-use Rattle.exports.specs.Array.{flagsFrom, memoryFrom, linesFrom, above, noneAbove, mostValue, heldOk}
+use Rattle.exports.specs.Array.{flagsFrom, flagsEnd, memoryFrom, linesFrom, entriesEnd, stateEnd, above, noneAbove, mostValue, heldOk}
 
 module _ (s : List ℕ) (most from to : ℕ) where
   abbrev pub found : ℕ
@@ -54,7 +54,7 @@ each-of-five a b c d e h =
 
 -- what the test of an array says of its places
 pub held-parts : (s : List ℕ) → heldOk s ≡ true →
-    (noneAbove 0 4 flagsFrom s ≡ true) × (noneAbove trueFlag flagsFrom 32 s ≡ true) × (noneAbove 0 32 memoryFrom s ≡ true) ×
-    (noneAbove mostValue memoryFrom linesFrom s ≡ true) × (noneAbove 0 1536 2048 s ≡ true)
+    (noneAbove 0 4 flagsFrom s ≡ true) × (noneAbove trueFlag flagsFrom flagsEnd s ≡ true) × (noneAbove 0 flagsEnd memoryFrom s ≡ true) ×
+    (noneAbove mostValue memoryFrom linesFrom s ≡ true) × (noneAbove 0 entriesEnd stateEnd s ≡ true)
 unfolding heldOk
 held-parts s h = each-of-five _ _ _ _ _ h

@@ -11,10 +11,13 @@ use Rattle.rules.specs.declared.Machine.{Machine}
 use Rattle.rules.specs.State.{caches, machineOf, trueFlag}
 use Rattle.rules.specs.Making.{dims}
 
--- Places 0 to 3 hold the dimensions. From these on stand TACTIVE and TSTATUS of each processor, the words of memory, the regular lines and
--- the transactional entries, each part as a machine has it.
+-- Places 0 to 3 hold the dimensions. Then, each part from a place on and as a machine has it: TACTIVE and TSTATUS of the processors, the
+-- words of memory, the regular lines, the transactional entries.
 abbrev pub flagsFrom : ℕ
 flagsFrom = 16
+
+abbrev pub flagsEnd : ℕ
+flagsEnd = 32
 
 abbrev pub memoryFrom : ℕ
 memoryFrom = 256
@@ -24,6 +27,12 @@ linesFrom = 512
 
 abbrev pub entriesFrom : ℕ
 entriesFrom = 1024
+
+abbrev pub entriesEnd : ℕ
+entriesEnd = 1536
+
+abbrev pub stateEnd : ℕ
+stateEnd = 2048
 
 -- n numbers of s from a place on
 unfoldable pub part : ℕ → ℕ → List ℕ → List ℕ
@@ -37,7 +46,7 @@ machineIn s =
     (caches (part memoryFrom 256 s) (part linesFrom 512 s) (part entriesFrom 512 s) (part flagsFrom 16 s))
 
 unfoldable pub blank : List ℕ
-blank = replicate 2048 0
+blank = replicate stateEnd 0
 
 -- the array that holds a machine
 unfoldable pub arrayOf : Machine → List ℕ
@@ -56,14 +65,15 @@ above most s i = ltb most (getD s i 0)
 unfoldable pub noneAbove : ℕ → ℕ → ℕ → List ℕ → Bool
 noneAbove most from to s = eqb (firstFrom (above most s) from (to - from)) to
 
--- "32-bit values"
+-- "an unsigned 32-bit value"
 abbrev pub mostValue : ℕ
 mostValue = 4294967295
 
--- An array holds a machine where its flags and values are in range and all other places 0. What a sound state asks of the dimensions and of
--- the copies it asks of the machine.
+-- An array holds a machine where its flags and its words of memory are in range and every place between the parts is 0. What "sound states"
+-- asks of the dimensions and of the copies is asked of that machine.
 unfoldable pub heldOk : List ℕ → Bool
 heldOk s =
     both (noneAbove 0 4 flagsFrom s)
-    (both (noneAbove trueFlag flagsFrom 32 s)
-    (both (noneAbove 0 32 memoryFrom s) (both (noneAbove mostValue memoryFrom linesFrom s) (noneAbove 0 1536 2048 s))))
+    (both (noneAbove trueFlag flagsFrom flagsEnd s)
+    (both (noneAbove 0 flagsEnd memoryFrom s)
+    (both (noneAbove mostValue memoryFrom linesFrom s) (noneAbove 0 entriesEnd stateEnd s))))

@@ -1,5 +1,8 @@
 // Parts of the array copied into a machine's arrays, and back.
 
+use crate::places::FLAGS_FROM;
+use crate::places::MEMORY_FROM;
+use crate::places::State;
 use entry::answer::Answer;
 use entry::answer::Counts;
 use rules::Copies;
@@ -13,7 +16,7 @@ ghost use lib.Seq.{sets};
 ghost use Rattle.entry.specs.Answer.{answered};
 ghost use Rattle.rules.specs.State.{trueFlag};
 ghost use Rattle.rules.specs.Lent.{before, after};
-ghost use Rattle.exports.specs.Array.{flagsFrom, memoryFrom, linesFrom, part, noneAbove, mostValue};
+ghost use Rattle.exports.specs.Array.{flagsFrom, flagsEnd, memoryFrom, linesFrom, stateEnd, part, noneAbove, mostValue};
 ghost use Rattle.exports.specs.Handed.{toldBy};
 
 fn narrow_value(x: u64) -> u32
@@ -42,34 +45,34 @@ fn wide_flag(x: u8) -> u64
     x as u64
 }
 
-pub(crate) fn memory_of(state: &[u64; 2048]) -> Memory
+pub(crate) fn memory_of(state: &State) -> Memory
     requires { ⌜ noneAbove mostValue memoryFrom linesFrom (now state) ≡ true ⌝ }
     ensures { λ r. ⌜ r ≡ part memoryFrom 256 (before state) ⌝ }
 {
     let mut whole = [0u32; 256];
     let mut i: usize = 0;
     while i < 256 {
-        whole[i] = narrow_value(state[256 + i]);
+        whole[i] = narrow_value(state[MEMORY_FROM + i]);
         i += 1;
     }
     whole
 }
 
-pub(crate) fn flags_of(state: &[u64; 2048]) -> Flags
-    requires { ⌜ noneAbove trueFlag flagsFrom 32 (now state) ≡ true ⌝ }
+pub(crate) fn flags_of(state: &State) -> Flags
+    requires { ⌜ noneAbove trueFlag flagsFrom flagsEnd (now state) ≡ true ⌝ }
     ensures { λ r. ⌜ r ≡ part flagsFrom 16 (before state) ⌝ }
 {
     let mut whole = [0u8; 16];
     let mut i: usize = 0;
     while i < 16 {
-        whole[i] = narrow_flag(state[16 + i]);
+        whole[i] = narrow_flag(state[FLAGS_FROM + i]);
         i += 1;
     }
     whole
 }
 
-pub(crate) fn copies_of(state: &[u64; 2048], from: usize) -> Copies
-    requires { ⌜ from + 512 ≤ 2048 ⌝ }
+pub(crate) fn copies_of(state: &State, from: usize) -> Copies
+    requires { ⌜ from + 512 ≤ stateEnd ⌝ }
     ensures { λ r. ⌜ r ≡ part from 512 (before state) ⌝ }
 {
     let mut whole = [0u64; 512];
@@ -81,30 +84,30 @@ pub(crate) fn copies_of(state: &[u64; 2048], from: usize) -> Copies
     whole
 }
 
-pub(crate) fn put_memory(state: &mut [u64; 2048], whole: &Memory)
+pub(crate) fn put_memory(state: &mut State, whole: &Memory)
     requires { ⌜ length (now whole) ≡ 256 ⌝ }
     ensures { λ r. ⌜ after state ≡ sets (before state) memoryFrom (before whole) ⌝ }
 {
     let mut i: usize = 0;
     while i < 256 {
-        state[256 + i] = wide_value(whole[i]);
+        state[MEMORY_FROM + i] = wide_value(whole[i]);
         i += 1;
     }
 }
 
-pub(crate) fn put_flags(state: &mut [u64; 2048], whole: &Flags)
+pub(crate) fn put_flags(state: &mut State, whole: &Flags)
     requires { ⌜ length (now whole) ≡ 16 ⌝ }
     ensures { λ r. ⌜ after state ≡ sets (before state) flagsFrom (before whole) ⌝ }
 {
     let mut i: usize = 0;
     while i < 16 {
-        state[16 + i] = wide_flag(whole[i]);
+        state[FLAGS_FROM + i] = wide_flag(whole[i]);
         i += 1;
     }
 }
 
-pub(crate) fn put_copies(state: &mut [u64; 2048], from: usize, whole: &Copies)
-    requires { ⌜ (from + 512 ≤ 2048) × (length (now whole) ≡ 512) ⌝ }
+pub(crate) fn put_copies(state: &mut State, from: usize, whole: &Copies)
+    requires { ⌜ (from + 512 ≤ stateEnd) × (length (now whole) ≡ 512) ⌝ }
     ensures { λ r. ⌜ after state ≡ sets (before state) from (before whole) ⌝ }
 {
     let mut i: usize = 0;

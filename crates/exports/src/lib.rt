@@ -3,11 +3,13 @@
 
 mod array;
 mod copying;
+mod places;
 
 use crate::array::held_ok;
 use crate::array::machine_of;
 use crate::array::put_machine;
 use crate::copying::put_told;
+use crate::places::State;
 use entry::refusals::ACCEPTED;
 use entry::refusals::NOT_SOUND;
 use entry::step::Step;
@@ -25,7 +27,7 @@ pub extern "C" fn stirnfeld_make(
     lines: usize,
     entries: usize,
     initial: &[u32],
-    state: &mut [u64; 2048],
+    state: &mut State,
 ) -> u8
     ensures { λ r. ⌜ handed r (after state) ≡ makeIn (dims processors words lines entries) (before initial) (before state) ⌝ }
 {
@@ -38,7 +40,7 @@ pub extern "C" fn stirnfeld_make(
 }
 
 #[no_mangle]
-pub extern "C" fn stirnfeld_sound(state: &[u64; 2048]) -> u8
+pub extern "C" fn stirnfeld_sound(state: &State) -> u8
     ensures { λ r. ⌜ r ≡ soundIn (before state) ⌝ }
 {
     if !held_ok(state) {
@@ -54,7 +56,7 @@ pub extern "C" fn stirnfeld_sound(state: &[u64; 2048]) -> u8
 // told becomes the answer's number, its value, and the six counts.
 #[no_mangle]
 pub extern "C" fn stirnfeld_step(
-    state: &mut [u64; 2048],
+    state: &mut State,
     op: u8,
     core: u8,
     word: u32,
@@ -88,7 +90,7 @@ pub extern "C" fn stirnfeld_step(
 // The number of steps that were taken goes into taken; where the whole run is refused, 0.
 #[no_mangle]
 pub extern "C" fn stirnfeld_run(
-    state: &mut [u64; 2048],
+    state: &mut State,
     ops: &[u8],
     cores: &[u8],
     used_words: &[u32],
@@ -137,7 +139,7 @@ pub extern "C" fn stirnfeld_run(
 
 // values becomes every word's settled value, and 0 past the words.
 #[no_mangle]
-pub extern "C" fn stirnfeld_settle(state: &[u64; 2048], values: &mut [u32; 256]) -> u8
+pub extern "C" fn stirnfeld_settle(state: &State, values: &mut [u32; 256]) -> u8
     ensures { λ r. ⌜ handed r (after values) ≡ settleIn (before state) (before values) ⌝ }
 {
     if !held_ok(state) {

@@ -2,7 +2,7 @@ use mathlib.Core.Path.{_≡_, refl, _∙_}
 use Prim.Native.Nat.{_≤_, _-_}
 use lib.ListN.{length, take, length-set}
 use borrow.Author.Needs.{needs}
-use Rattle.exports.specs.Array.{flagsFrom, part}
+use Rattle.exports.specs.Array.{flagsFrom, flagsEnd, part}
 use Rattle.exports.proofs.Tested.{none-above-at}
 use Rattle.rules.specs.State.{trueFlag}
 use Rattle.exports.proofs.Copied.{read-turn, read-end}
@@ -10,7 +10,7 @@ use Rattle.exports.proofs.copying.flags_of.Statement.{statement}
 use Rattle.exports.proofs.copying.flags_of.Tie as tie
 
 abbrev Inv-loop : tie.InvT-loop
-Inv-loop state whole₀ i₀ whole i = (i ≤ 16) × (length whole ≡ 16) × (take i whole ≡ take i (part 16 16 state))
+Inv-loop state whole₀ i₀ whole i = (i ≤ 16) × (length whole ≡ 16) × (take i whole ≡ take i (part flagsFrom 16 state))
 
 abbrev μ-loop : tie.MeasureT-loop
 μ-loop state whole₀ i₀ whole i = 16 - i
@@ -30,7 +30,7 @@ element-copy-out-narrow-flag c = search needs
 narrow-flag-requires : tie.Need-narrow-flag-requires Inv-loop μ-loop
 narrow-flag-requires c κs =
     let c1 = c .before .before .before in
-    none-above-at (c1 .args .state .now) trueFlag flagsFrom 32 (search needs) (c1 .pre) _ (search needs) (search needs)
+    none-above-at (c1 .args .state .now) trueFlag flagsFrom flagsEnd (search needs) (c1 .pre) _ (search needs) (search needs)
 
 array-write-whole : tie.Need-array-write-whole Inv-loop μ-loop
 array-write-whole c = search needs
@@ -48,14 +48,14 @@ loop-again c =
       search needs,
       length-set (l .whole) _ _ ∙ l .inv .1,
       rw (c .narrow-flag .ensures)
-          (read-turn s (l .whole) 16 16 (l .i) (l .inv .2) (search needs) (search needs)),
+          (read-turn s (l .whole) flagsFrom 16 (l .i) (l .inv .2) (search needs) (search needs)),
     )
 
 returns : tie.Need-returns Inv-loop μ-loop
 returns c =
     let l = c .before .loop in
     let x = c .before .before .args in
-    read-end (x .state .now) (l .whole) 16 16 (l .i) (l .inv .2) (search needs) (search needs)
+    read-end (x .state .now) (l .whole) flagsFrom 16 (l .i) (l .inv .2) (search needs) (search needs)
 
 pub flags-of-spec : {M : Type 1} → statement M
 flags-of-spec =

@@ -9,7 +9,7 @@ use Rattle.exports.proofs.copying.memory_of.Statement.{statement}
 use Rattle.exports.proofs.copying.memory_of.Tie as tie
 
 abbrev Inv-loop : tie.InvT-loop
-Inv-loop state whole₀ i₀ whole i = (i ≤ 256) × (length whole ≡ 256) × (take i whole ≡ take i (part 256 256 state))
+Inv-loop state whole₀ i₀ whole i = (i ≤ 256) × (length whole ≡ 256) × (take i whole ≡ take i (part memoryFrom 256 state))
 
 abbrev μ-loop : tie.MeasureT-loop
 μ-loop state whole₀ i₀ whole i = 256 - i
@@ -50,14 +50,14 @@ loop-again c =
       search needs,
       length-set (l .whole) _ _ ∙ l .inv .1,
       rw (c .narrow-value .ensures)
-          (read-turn s (l .whole) 256 256 (l .i) (l .inv .2) (search needs) (search needs)),
+          (read-turn s (l .whole) memoryFrom 256 (l .i) (l .inv .2) (search needs) (search needs)),
     )
 
 returns : tie.Need-returns Inv-loop μ-loop
 returns c =
     let l = c .before .loop in
     let x = c .before .before .args in
-    read-end (x .state .now) (l .whole) 256 256 (l .i) (l .inv .2) (search needs) (search needs)
+    read-end (x .state .now) (l .whole) memoryFrom 256 (l .i) (l .inv .2) (search needs) (search needs)
 
 pub memory-of-spec : {M : Type 1} → statement M
 memory-of-spec =
