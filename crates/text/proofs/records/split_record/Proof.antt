@@ -1,4 +1,5 @@
-use borrow.Author.Tests.{lt-ltb, le-ltb, le-leb, lt-leb}
+use mathlib.Core.Path.{_∙_, sym}
+use borrow.Author.Tests.{not-true, not-false, lt-ltb, le-ltb, le-leb, lt-leb}
 use Rattle.text.specs.Records.{splitOf}
 use borrow.Author.Needs.{needs}
 use Rattle.text.proofs.records.split_record.Statement.{statement}
@@ -9,7 +10,7 @@ is-plain-requires c κs = search needs
 
 returns : tie.Need-returns
 unfolding splitOf
-returns c = rw (← c .before .is-plain .ensures, c .if1 .taken)
+returns c = rw (sym (c .before .is-plain .ensures) ∙ not-true _ (c .if1 .taken))
 
 find-requires : tie.Need-find-requires
 find-requires c κs = search needs
@@ -18,10 +19,9 @@ returns-2 : tie.Need-returns-2
 unfolding splitOf
 returns-2 c =
     rw (
-      ← c .before .before .before .is-plain .ensures,
-      c .before .before .if1 .left,
+      sym (c .before .before .before .is-plain .ensures) ∙ not-false _ (c .before .before .if1 .left),
       ← c .before .find .ensures,
-      le-leb _ _ (c .if2 .taken),
+      le-ltb _ _ (c .if2 .taken),
     )
 
 add-find : tie.Need-add-find
@@ -34,12 +34,11 @@ returns-3 : tie.Need-returns-3
 unfolding splitOf
 returns-3 c =
     rw (
-      ← c .before .before .before .before .before .is-plain .ensures,
-      c .before .before .before .before .if1 .left,
+      sym (c .before .before .before .before .before .is-plain .ensures) ∙ not-false _ (c .before .before .before .before .if1 .left),
       ← c .before .before .before .find .ensures,
-      lt-leb _ _ (c .before .before .if2 .left),
+      lt-ltb _ _ (c .before .before .if2 .left),
       ← c .before .find2 .ensures,
-      le-leb _ _ (c .if3 .taken),
+      le-ltb _ _ (c .if3 .taken),
     )
 
 add-find-2 : tie.Need-add-find-2
@@ -52,14 +51,13 @@ returns-4 : tie.Need-returns-4
 unfolding splitOf
 returns-4 c =
     rw (
-      ← c .before .before .before .before .before .before .before .is-plain .ensures,
-      c .before .before .before .before .before .before .if1 .left,
+      sym (c .before .before .before .before .before .before .before .is-plain .ensures) ∙ not-false _ (c .before .before .before .before .before .before .if1 .left),
       ← c .before .before .before .before .before .find .ensures,
-      lt-leb _ _ (c .before .before .before .before .if2 .left),
+      lt-ltb _ _ (c .before .before .before .before .if2 .left),
       ← c .before .before .before .find2 .ensures,
-      lt-leb _ _ (c .before .before .if3 .left),
+      lt-ltb _ _ (c .before .before .if3 .left),
       ← c .before .find3 .ensures,
-      le-leb _ _ (c .if4 .taken),
+      le-ltb _ _ (c .if4 .taken),
     )
 
 add-find-3 : tie.Need-add-find-3
@@ -72,16 +70,15 @@ returns-5 : tie.Need-returns-5
 unfolding splitOf
 returns-5 c =
     rw (
-      ← c .before .before .before .before .before .before .before .before .before .is-plain .ensures,
-      c .before .before .before .before .before .before .before .before .if1 .left,
+      sym (c .before .before .before .before .before .before .before .before .before .is-plain .ensures) ∙ not-false _ (c .before .before .before .before .before .before .before .before .if1 .left),
       ← c .before .before .before .before .before .before .before .find .ensures,
-      lt-leb _ _ (c .before .before .before .before .before .before .if2 .left),
+      lt-ltb _ _ (c .before .before .before .before .before .before .if2 .left),
       ← c .before .before .before .before .before .find2 .ensures,
-      lt-leb _ _ (c .before .before .before .before .if3 .left),
+      lt-ltb _ _ (c .before .before .before .before .if3 .left),
       ← c .before .before .before .find3 .ensures,
-      lt-leb _ _ (c .before .before .if4 .left),
+      lt-ltb _ _ (c .before .before .if4 .left),
       ← c .before .find4 .ensures,
-      le-leb _ _ (c .if5 .taken),
+      le-ltb _ _ (c .if5 .taken),
     )
 
 add-find-4 : tie.Need-add-find-4
@@ -94,36 +91,34 @@ returns-6 : tie.Need-returns-6
 unfolding splitOf
 returns-6 c =
     rw (
-      ← c .before .before .before .before .before .before .before .before .before .before .before .is-plain .ensures,
-      c .before .before .before .before .before .before .before .before .before .before .if1 .left,
+      sym (c .before .before .before .before .before .before .before .before .before .before .before .is-plain .ensures) ∙ not-false _ (c .before .before .before .before .before .before .before .before .before .before .if1 .left),
       ← c .before .before .before .before .before .before .before .before .before .find .ensures,
-      lt-leb _ _ (c .before .before .before .before .before .before .before .before .if2 .left),
+      lt-ltb _ _ (c .before .before .before .before .before .before .before .before .if2 .left),
       ← c .before .before .before .before .before .before .before .find2 .ensures,
-      lt-leb _ _ (c .before .before .before .before .before .before .if3 .left),
+      lt-ltb _ _ (c .before .before .before .before .before .before .if3 .left),
       ← c .before .before .before .before .before .find3 .ensures,
-      lt-leb _ _ (c .before .before .before .before .if4 .left),
+      lt-ltb _ _ (c .before .before .before .before .if4 .left),
       ← c .before .before .before .find4 .ensures,
-      lt-leb _ _ (c .before .before .if5 .left),
+      lt-ltb _ _ (c .before .before .if5 .left),
       ← c .before .find5 .ensures,
-      lt-ltb _ _ (c .if6 .taken),
+      lt-leb _ _ (c .if6 .taken),
     )
 
 returns-7 : tie.Need-returns-7
 unfolding splitOf
 returns-7 c =
     rw (
-      ← c .before .before .before .before .before .before .before .before .before .before .before .is-plain .ensures,
-      c .before .before .before .before .before .before .before .before .before .before .if1 .left,
+      sym (c .before .before .before .before .before .before .before .before .before .before .before .is-plain .ensures) ∙ not-false _ (c .before .before .before .before .before .before .before .before .before .before .if1 .left),
       ← c .before .before .before .before .before .before .before .before .before .find .ensures,
-      lt-leb _ _ (c .before .before .before .before .before .before .before .before .if2 .left),
+      lt-ltb _ _ (c .before .before .before .before .before .before .before .before .if2 .left),
       ← c .before .before .before .before .before .before .before .find2 .ensures,
-      lt-leb _ _ (c .before .before .before .before .before .before .if3 .left),
+      lt-ltb _ _ (c .before .before .before .before .before .before .if3 .left),
       ← c .before .before .before .before .before .find3 .ensures,
-      lt-leb _ _ (c .before .before .before .before .if4 .left),
+      lt-ltb _ _ (c .before .before .before .before .if4 .left),
       ← c .before .before .before .find4 .ensures,
-      lt-leb _ _ (c .before .before .if5 .left),
+      lt-ltb _ _ (c .before .before .if5 .left),
       ← c .before .find5 .ensures,
-      le-ltb _ _ (c .if6 .left),
+      le-leb _ _ (c .if6 .left),
     )
 
 pub split-record-spec : {M : Type 1} → statement M
