@@ -23,7 +23,7 @@ module _ {S : Type 0} (more : S → Bool) (line : S → List ℕ) (next : S → 
   stops = pieces.stops more line next most
 
   abbrev pieceTurn : Filling S → Filling S
-  pieceTurn = pieces.turn more line next most
+  pieceTurn = pieces.pieceTurn more line next most
 
   abbrev pieceOf : ℕ → S → List ℕ → Filling S
   pieceOf = pieces.pieceOf more line next most
