@@ -174,7 +174,8 @@ module _ {S : Type 0} (more : S → Bool) (line : S → List ℕ) (next : S → 
     never-less zero c = omega arith
     never-less (suc f) c = by (stops c) (never-less f (pieceTurn c))
       where
-        by : (b : Bool) → pieceTurn c .used ≤ runTo stops pieceTurn f (pieceTurn c) .used → c .used ≤ pick b c (runTo stops pieceTurn f (pieceTurn c)) .used
+        by : (b : Bool) → pieceTurn c .used ≤ runTo stops pieceTurn f (pieceTurn c) .used →
+            c .used ≤ pick b c (runTo stops pieceTurn f (pieceTurn c)) .used
         by true h = omega arith
         by false h = omega (arith, h)
 
