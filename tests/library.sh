@@ -1,6 +1,8 @@
 # shellcheck shell=sh disable=SC2154
 # The static library of the functions for C, and a compiler for what links it. Sourced after tests/suite.sh by the scripts of tests that do.
 # The library is x86-64 code: on another machine what links it is compiled for that, and run by tests/built.
+# shellcheck source=tests/new.sh
+. "$top/tests/new.sh" || exit 1
 library=$top/target/staticlib/libexports.a
 
 # Sets `compiler`.
@@ -14,10 +16,8 @@ find_compiler() {
     command -v "$compiler" >/dev/null
 }
 
-# Whether nothing that it is built from has changed since. To build it takes a minute even then.
-library_is_new() {
-    [ -f "$library" ] && [ -z "$(cd "$top" && find crates crates.txt toolchain.txt -newer "$library")" ]
-}
+# To build it takes a minute even where nothing that it is built from has changed.
+library_is_new() { is_new "$library"; }
 
 # An old library is never linked.
 build_library() {

@@ -3,3 +3,4 @@ pub mod Fold
 pub mod Search
 pub mod Until
 pub mod Places
+pub mod OneAnswer

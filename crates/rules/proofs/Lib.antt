@@ -6,3 +6,4 @@ pub mod Readings
 pub mod Slots
 pub mod Answers
 pub mod Taken
+pub mod Unique

@@ -7,33 +7,18 @@ use rules::Copies;
 use rules::Dims;
 use rules::Flags;
 ghost use mathlib.Core.Path.{_≡_};
-ghost use Rattle.entry.specs.Answer.{answered, noCycles, refusedBy};
+ghost use Rattle.entry.specs.Answer.{answered, noCycles};
 ghost use Rattle.rules.specs.State.{outcome};
-ghost use Rattle.entry.specs.Refusals.{noSuchStep};
 ghost use Rattle.rules.specs.Ends.{commit, abort, validate, interrupt};
 ghost use Rattle.rules.specs.Lent.{onEntriesFlags};
 
 fn told(answer: Answer) -> Answered
     ensures { λ r. ⌜ r ≡ answered answer noCycles ⌝ }
 {
-    let c = Counts {
-        read: 0,
-        rfo: 0,
-        write: 0,
-        t_read: 0,
-        t_rfo: 0,
-        busy: 0,
-    };
     Answered {
         answer: answer,
-        counts: c,
+        counts: Counts::quiet(0),
     }
-}
-
-pub(crate) fn no_such_step() -> Answered
-    ensures { λ r. ⌜ r ≡ refusedBy noSuchStep ⌝ }
-{
-    Answered::refused(6)
 }
 
 pub(crate) fn commit(entries: &mut Copies, flags: &mut Flags, d: Dims, p: usize) -> Answered

@@ -1,5 +1,6 @@
 // The steps by their numbers, on the lent arrays, and which of them are refused.
 
+mod allowed;
 mod ends;
 
 use entry::answer::Answered;
@@ -12,61 +13,39 @@ use entry::numbers::LTX;
 use entry::numbers::ST;
 use entry::numbers::STORE;
 use entry::numbers::VALIDATE;
+use entry::refusals::NO_SUCH_STEP;
+use entry::step::Step;
 use rules::Copies;
 use rules::Dims;
 use rules::Flags;
 use rules::Memory;
 ghost use mathlib.Core.Path.{_≡_};
 ghost use Rattle.rules.specs.State.{outcome};
-ghost use Rattle.rules.specs.Step.{stepRefusal, takeStep};
+ghost use Rattle.rules.specs.Step.{takeStep};
 ghost use Rattle.rules.specs.Lent.{lent, returned};
 
-// 0 where the step is taken, else the refusal's number.
-pub fn step_refusal(d: Dims, op: u8, p: usize, word: u32) -> u8
-    ensures { λ r. ⌜ r ≡ stepRefusal d op p word ⌝ }
-{
-    if op > INTERRUPT {
-        return 6;
-    }
-    if p >= d.processors {
-        return 7;
-    }
-    if op > ST {
-        return 0;
-    }
-    let w = word as usize;
-    if w < d.words {
-        return 0;
-    }
-    8
-}
-
-// A step that is not refused.
+// One arm for each instruction. A refused step leaves the arrays as they were.
 pub fn take_step(
     memory: &mut Memory,
     lines: &mut Copies,
     entries: &mut Copies,
     flags: &mut Flags,
     d: Dims,
-    op: u8,
-    p: usize,
-    word: u8,
-    v: u32,
+    step: Step,
 ) -> Answered
-    ensures { λ r. ⌜ outcome r (returned memory lines entries flags) ≡ takeStep d op p word v (lent memory lines entries flags) ⌝ }
+    ensures { λ r. ⌜ outcome r (returned memory lines entries flags) ≡ takeStep d step (lent memory lines entries flags) ⌝ }
 {
-    // One call for the three transactional accesses: the compiler writes a function out where it has one caller.
-    let access = match op {
-        LOAD => return plain::load(memory, lines, entries, flags, d, p, word),
-        STORE => return plain::store(memory, lines, entries, flags, d, p, word, v),
-        LT => LT,
-        LTX => LTX,
-        ST => ST,
-        COMMIT => return ends::commit(entries, flags, d, p),
-        ABORT => return ends::abort(entries, flags, d, p),
-        VALIDATE => return ends::validate(entries, flags, p),
-        INTERRUPT => return ends::interrupt(entries, flags, d, p),
-        9..=255 => return ends::no_such_step(),
-    };
-    transact::transact(memory, lines, entries, flags, d, access, p, word, v)
+    let op = step.op;
+    match op {
+        LOAD => allowed::load(memory, lines, entries, flags, d, step),
+        STORE => allowed::store(memory, lines, entries, flags, d, step),
+        LT => allowed::transact(memory, lines, entries, flags, d, LT, step),
+        LTX => allowed::transact(memory, lines, entries, flags, d, LTX, step),
+        ST => allowed::transact(memory, lines, entries, flags, d, ST, step),
+        COMMIT => allowed::commit(entries, flags, d, step),
+        ABORT => allowed::abort(entries, flags, d, step),
+        VALIDATE => allowed::validate(entries, flags, d, step),
+        INTERRUPT => allowed::interrupt(entries, flags, d, step),
+        9..=255 => Answered::refused(NO_SUCH_STEP),
+    }
 }
