@@ -19,15 +19,15 @@ pub(crate) const LINE_MOST: usize = 72;
 // The answers' names in the order of their numbers. Name k is what stands from the k-th start up to the next.
 const NAMES: [u8; 46] = *b"VALUEDONESUCCESSFAILURETRUEFALSEABORTEDREFUSED";
 
-const STARTS: [usize; 9] = [0, 5, 9, 16, 23, 27, 32, 39, 46];
+const STARTS: [u8; 9] = [0, 5, 9, 16, 23, 27, 32, 39, 46];
 
 fn put_name(out: &mut [u8], at: usize, answer: Answer) -> usize
     ensures { λ r. ⌜ filled r (after out) ≡ putOf (bytes (answerName answer)) (filled at (before out)) ⌝ }
 {
     let names = NAMES;
     let k = answer.number() as usize;
-    let a = STARTS[k];
-    let e = STARTS[k + 1];
+    let a = STARTS[k] as usize;
+    let e = STARTS[k + 1] as usize;
     put_bytes(out, at, &names[a..e])
 }
 

@@ -16,7 +16,7 @@ pub enum Named {
 // The steps' names in the order of their numbers. Name k is what stands from the k-th start up to the next.
 const NAMES: [u8; 44] = *b"LOADSTORELTLTXSTCOMMITABORTVALIDATEINTERRUPT";
 
-const STARTS: [usize; 10] = [0, 4, 9, 11, 14, 16, 22, 27, 35, 44];
+const STARTS: [u8; 10] = [0, 4, 9, 11, 14, 16, 22, 27, 35, 44];
 
 // The bytes from `from` up to `end` are the name.
 pub fn text_is(s: &[u8], from: usize, end: usize, name: &[u8]) -> bool
@@ -59,8 +59,8 @@ fn is_name(s: &[u8], from: usize, end: usize, k: usize) -> bool
     ensures { λ r. ⌜ r ≡ isName (now (s .entry)) from end k ⌝ }
 {
     let names = NAMES;
-    let a = STARTS[k];
-    let e = STARTS[k + 1];
+    let a = STARTS[k] as usize;
+    let e = STARTS[k + 1] as usize;
     text_is(s, from, end, &names[a..e])
 }
 

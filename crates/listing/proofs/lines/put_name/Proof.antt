@@ -10,20 +10,20 @@ number-requires c κs = search needs
 cast-k : tie.Need-cast-k
 cast-k c = search needs
 
-mul-a : tie.Need-mul-a
-mul-a c = search needs
-
 array-read-a : tie.Need-array-read-a
 array-read-a c = omega (arith, named (c .before .before .args .answer) _ (c .number .ensures) .0)
+
+cast-a : tie.Need-cast-a
+cast-a c = let n = named (c .before .before .args .answer) _ (c .number .ensures) .1 in omega (arith, n .from, n .inside)
 
 add-e : tie.Need-add-e
 add-e c = search needs
 
-mul-e : tie.Need-mul-e
-mul-e c = search needs
-
 array-read-e : tie.Need-array-read-e
 array-read-e c = omega (arith, named (c .before .before .args .answer) _ (c .number .ensures) .0)
+
+cast-e : tie.Need-cast-e
+cast-e c = omega (arith, named (c .before .before .args .answer) _ (c .number .ensures) .1 .inside)
 
 sub-put-bytes : tie.Need-sub-put-bytes
 sub-put-bytes c = named (c .before .before .before .args .answer) _ (c .before .number .ensures) .1 .from
@@ -51,11 +51,11 @@ put-name-spec =
     (tie.spec
     number-requires
     cast-k
-    mul-a
     array-read-a
+    cast-a
     add-e
-    mul-e
     array-read-e
+    cast-e
     sub-put-bytes
     part-put-bytes-start
     part-put-bytes-end

@@ -1,6 +1,7 @@
 use mathlib.Core.Path.{_∙_, ap}
 use Prim.Native.Nat.{ℕ, _<_}
 use mathlib.Core.List.{List, [], _∷_}
+use native.Mathlib.Omega.{arith}
 use lib.ListN.{length, getD}
 use Rattle.text.specs.Quoted.{bytes}
 use Rattle.text.specs.Names.{sameText, stepNames, isName}
@@ -19,20 +20,20 @@ starts = 0 ∷ 4 ∷ 9 ∷ 11 ∷ 14 ∷ 16 ∷ 22 ∷ 27 ∷ 35 ∷ 44 ∷ []
 named : (k : ℕ) → k < length stepNames → Stands text starts k (getD stepNames k [])
 named k h = all-stand text starts stepNames tt k h
 
-mul-a : tie.Need-mul-a
-mul-a c = search needs
-
 array-read-a : tie.Need-array-read-a
 array-read-a c = search needs
+
+cast-a : tie.Need-cast-a
+cast-a c = let n = named _ (c .before .pre) in omega (arith, n .from, n .inside)
 
 add-e : tie.Need-add-e
 add-e c = search needs
 
-mul-e : tie.Need-mul-e
-mul-e c = search needs
-
 array-read-e : tie.Need-array-read-e
 array-read-e c = search needs
+
+cast-e : tie.Need-cast-e
+cast-e c = omega (arith, named _ (c .before .pre) .inside)
 
 sub-text-is : tie.Need-sub-text-is
 sub-text-is c = named _ (c .before .pre) .from
@@ -54,11 +55,11 @@ pub is-name-spec : {M : Type 1} → statement M
 is-name-spec =
     tie.close
     (tie.spec
-    mul-a
     array-read-a
+    cast-a
     add-e
-    mul-e
     array-read-e
+    cast-e
     sub-text-is
     part-text-is-start
     part-text-is-end
