@@ -35,7 +35,7 @@ put-did l o o' used k h e =
 
 module _ (s : List ℕ) (x : Place) (used : ℕ) (o : List ℕ) (room : used + mostLine ≤ length o) (k : ℕ) (o' : List ℕ) (y : Place) where
   pub record-did : (d : Dims) (c c' : Caches) (l : Looked) (a : Answered) (n : ℕ) →
-      l ≡ lookAt s d x → outcome a c' ≡ answerOf d l c → n ≡ more64 (x .number) 1 →
+      l ≡ lookAt s x → outcome a c' ≡ answerOf d l c → n ≡ more64 (x .number) 1 →
       filled k o' ≡ putOf (answerLine n a) (filled used o) → y ≡ placeAfter s x l a →
       filling (going y c') k o' ≡ wroteLine (doRecord s d x c) used o
   unfolding doRecord

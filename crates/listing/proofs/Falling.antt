@@ -5,13 +5,13 @@ use mathlib.Core.List.{List}
 use Prim.Native.Nat.{ℕ, _+_, _-_, _≤_, _<_}
 use native.Mathlib.Omega.{arith}
 use borrow.Author.Tests.{ltb-true, ltb-false, eqb-true, eqb-false, le-ltb}
-use lib.Dec.{eqb, ltb}
+use lib.Dec.{eqb, ltb, leb}
 use lib.ListN.{length}
 use Rattle.laws.specs.Choice.{pick}
 use Rattle.laws.specs.Search.{firstFrom}
 use Rattle.rules.specs.declared.Dims.{Dims}
 use Rattle.rules.specs.State.{Caches}
-use Rattle.entry.specs.Refusals.{accepted}
+use Rattle.entry.specs.Refusals.{accepted, tooLong, unless}
 use Rattle.text.specs.declared.records.Record.{Record}
 use Rattle.text.specs.declared.records.Record.the-variants as record-is
 use Rattle.text.specs.Records.{recordEnd, recordOf}
@@ -19,7 +19,7 @@ use Rattle.text.proofs.Ends.{end-range}
 use Rattle.listing.specs.declared.places.Place.{Place}
 use Rattle.listing.specs.declared.records.Looked.{Looked}
 use Rattle.listing.specs.Place.{HEADER, REFUSAL, RECORD, END, NOTHING, past, phaseAt, firstPhase}
-use Rattle.listing.specs.Records.{mostBytes, tooLong, lookedIn, lookAt, phaseAfter, placeAfter}
+use Rattle.listing.specs.Records.{mostBytes, noFields, looked, lookedIn, lookAt, phaseAfter, placeAfter}
 use Rattle.listing.specs.Listing.{Did, Going, goesOn, lineOf, nextAt, linesLeft, doRecord, doOther, doLine}
 use Rattle.listing.proofs.Fitting.{fair, answer-fair, end-fair}
 
@@ -56,7 +56,7 @@ module _ (s : List ℕ) where
   unfolding firstPhase
   first-on x = by (eqb (x .refusal) accepted)
     where
-      by : (b : Bool) → REFUSAL ≤ pick b (phaseAt s (x .at)) REFUSAL
+      by : (b : Bool) → REFUSAL ≤ unless b REFUSAL (phaseAt s (x .at))
       by true = omega (arith, phase-on (x .at) .0)
       by false = omega arith
 
@@ -76,17 +76,16 @@ module _ (s : List ℕ) where
       by true = refl
       by false = phase-end (l .next) h
 
-  look-next : (d : Dims) (x : Place) → lookAt s d x .next ≡ past s (recordEnd s (x .at))
+  look-next : (x : Place) → lookAt s x .next ≡ past s (recordEnd s (x .at))
   unfolding lookAt
-  look-next d x = by (ltb mostBytes (past s (recordEnd s (x .at)))) (recordOf s (x .at) (recordEnd s (x .at)))
+  look-next x = by (leb (past s (recordEnd s (x .at))) mostBytes) (recordOf s (x .at) (recordEnd s (x .at)))
     where
       by : (b : Bool) (r : Record) →
-          pick b
-          (record { next = past s (recordEnd s (x .at)); refusal = tooLong; fields = record { grant = 0; core = 0; op = 0; word = 0; value = 0 } })
-          (lookedIn d x (past s (recordEnd s (x .at))) r) .next ≡ past s (recordEnd s (x .at))
-      by true r = refl
-      by false (record-is.Refused n) = refl
-      by false (record-is.Fields f) = refl
+          unless b (looked (past s (recordEnd s (x .at))) tooLong noFields) (lookedIn x (past s (recordEnd s (x .at))) r) .next ≡
+          past s (recordEnd s (x .at))
+      by false r = refl
+      by true (record-is.Refused n) = refl
+      by true (record-is.Fields f) = refl
 
   module _ (d : Dims) where
     record-falls : (x : Place) (c : Caches) → x .phase ≡ RECORD →
@@ -95,13 +94,13 @@ module _ (s : List ℕ) where
     record-falls x c e = by (ltb (x .at) (length s)) refl
       where
         l : Looked
-        l = lookAt s d x
+        l = lookAt s x
 
         by : (b : Bool) → ltb (x .at) (length s) ≡ b → (length s - l .next) + (NOTHING - phaseAfter s l) < (length s - x .at) + (NOTHING - x .phase)
-        by true h = let k = ltb-true (x .at) (length s) h in omega (arith, look-next d x, past-on (x .at) k, after-on l, k)
+        by true h = let k = ltb-true (x .at) (length s) h in omega (arith, look-next x, past-on (x .at) k, after-on l, k)
         by false h =
             let k = ltb-false (x .at) (length s) h in
-            let n : l .next ≡ x .at = look-next d x ∙ past-end (x .at) k in
+            let n : l .next ≡ x .at = look-next x ∙ past-end (x .at) k in
             omega (arith, n, after-end l (omega arith), k)
 
     other-falls : (x : Place) (c : Caches) → x .phase < NOTHING → (x .phase ≡ RECORD → ⊥) →

@@ -23,7 +23,7 @@ module _ {S : Type 0} (more : S → Bool) (line : S → List ℕ) (next : S → 
   stops = pieces.stops more line next most
 
   abbrev pieceTurn : Filling S → Filling S
-  pieceTurn = pieces.turn more line next most
+  pieceTurn = pieces.pieceTurn more line next most
 
   abbrev pieceOf : ℕ → S → List ℕ → Filling S
   pieceOf = pieces.pieceOf more line next most
@@ -174,7 +174,8 @@ module _ {S : Type 0} (more : S → Bool) (line : S → List ℕ) (next : S → 
     never-less zero c = omega arith
     never-less (suc f) c = by (stops c) (never-less f (pieceTurn c))
       where
-        by : (b : Bool) → pieceTurn c .used ≤ runTo stops pieceTurn f (pieceTurn c) .used → c .used ≤ pick b c (runTo stops pieceTurn f (pieceTurn c)) .used
+        by : (b : Bool) → pieceTurn c .used ≤ runTo stops pieceTurn f (pieceTurn c) .used →
+            c .used ≤ pick b c (runTo stops pieceTurn f (pieceTurn c)) .used
         by true h = omega arith
         by false h = omega (arith, h)
 

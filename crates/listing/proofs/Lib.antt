@@ -1,3 +1,4 @@
+pub mod Named
 pub mod Fitting
 pub mod Turning
 pub mod Joining
@@ -5,6 +6,5 @@ pub mod Falling
 pub mod Doing
 pub mod Beginning
 pub mod Whole
-pub mod Words
 pub mod Worked
 pub mod Unique

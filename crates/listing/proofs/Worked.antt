@@ -17,17 +17,17 @@ use Rattle.rules.specs.Load.{loadMiss, loadOn, load}
 use Rattle.rules.specs.Store.{rollOwn, dropNormal, storeThrough, storeMiss, storeLine, store}
 use Rattle.rules.specs.Transact.{dropLine, finish, hit, openNormal, clearBackup, fillBackup, fill, request, missAt, miss, seek, transact}
 use Rattle.rules.specs.Ends.{commit, abort, validate, interrupt}
-use Rattle.rules.specs.Step.{stepRefusal, takeStep}
+use Rattle.rules.specs.Step.{operandsRefusal, takeStep}
 use Rattle.text.specs.Quoted.{bytes}
 use Rattle.text.specs.Marks.{findOf}
 use Rattle.text.specs.Decimals.{push, fieldOf}
-use Rattle.text.specs.Names.{unlikeOf, sameText, otherStepOf, stepOf}
+use Rattle.text.specs.Names.{unlikeOf, sameText, isName, namedStep}
 use Rattle.text.specs.Records.{recordEnd, plainOf, splitOf, recordOf}
 use Rattle.text.specs.Writing.{widthFrom, widthOf, digits, decimal}
 use Rattle.listing.specs.Pieces.{textFrom}
 use Rattle.listing.specs.Place.{more64, past, phaseAt, firstPhase, headerOk, beginAt}
 use Rattle.listing.specs.Lines.{crlf, answerLine, endLine}
-use Rattle.listing.specs.Records.{rises, fieldsRefusal, lookAt, answerOf, phaseAfter, placeAfter}
+use Rattle.listing.specs.Records.{rises, grantRefusal, lookAt, answerOf, phaseAfter, placeAfter}
 use Rattle.listing.specs.Listing.{doRecord, doOther, doLine, listingFrom}
 use Rattle.listing.specs.Replay.{beginOf, listing}
 
@@ -48,9 +48,9 @@ pub lists : List String → List String → Bool
 unfolding foldRange firstFrom applyFrom dimsRefusal makeRefusal fresh makeOf home findEntry lowest freeSlot liveEntry rolledEntries
     statusDown committedEntries writtenBack writes snoopLine snoopEntry snoopOne snoop opposes firstOpposing refuses rollOne rollOthers
     plainRequest loadMiss loadOn load rollOwn dropNormal storeThrough storeMiss storeLine store dropLine finish hit openNormal clearBackup
-    fillBackup fill request missAt miss seek transact commit abort validate interrupt stepRefusal takeStep findOf push fieldOf unlikeOf
-    sameText otherStepOf stepOf recordEnd plainOf splitOf recordOf widthFrom widthOf digits decimal textFrom more64 past phaseAt firstPhase
-    headerOk beginAt answerLine endLine rises fieldsRefusal lookAt answerOf phaseAfter placeAfter doRecord doOther doLine listingFrom
+    fillBackup fill request missAt miss seek transact commit abort validate interrupt operandsRefusal takeStep findOf push fieldOf unlikeOf
+    sameText isName namedStep recordEnd plainOf splitOf recordOf widthFrom widthOf digits decimal textFrom more64 past phaseAt firstPhase
+    headerOk beginAt answerLine endLine rises grantRefusal lookAt answerOf phaseAfter placeAfter doRecord doOther doLine listingFrom
     beginOf listing
 lists input output = same (listing (dims 4 16 4 4) (joined input)) (joined output)
 

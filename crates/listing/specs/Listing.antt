@@ -9,6 +9,8 @@ use Rattle.laws.specs.Choice.{pick}
 use Rattle.entry.specs.Answer.{refusedBy}
 use Rattle.rules.specs.declared.Dims.{Dims}
 use Rattle.rules.specs.State.{Caches}
+use Rattle.rules.specs.Lent.{Numbers, before, after, returned}
+use Rattle.listing.specs.declared.pieces.Filled.{Filled}
 use Rattle.listing.specs.declared.places.Place.{Place}
 use Rattle.listing.specs.Place.{HEADER, REFUSAL, RECORD, END, NOTHING, withPhase, more64, firstPhase}
 use Rattle.listing.specs.Lines.{mostLine, answerLine, endLine, headerLine}
@@ -27,7 +29,7 @@ did l x s = record { line = l; place = x; after = s }
 -- "record number from 1"
 unfoldable pub doRecord : List ℕ → Dims → Place → Caches → Did
 doRecord s d x c =
-    let l = lookAt s d x in
+    let l = lookAt s x in
     let r = answerOf d l c in
     did (answerLine (more64 (x .number) 1) (r .told)) (placeAfter s x l (r .told)) (r .after)
 
@@ -52,6 +54,16 @@ going x c = record { place = x; caches = c }
 -- a line written, where the buffer's first used places are
 abbrev pub wroteLine : Did → ℕ → List ℕ → Filling Going
 wroteLine r used o = filling (going (r .place) (r .after)) (used + length (r .line)) (sets o used (r .line))
+
+-- what a function leaves that is lent a buffer: where the replay stands, with the caches, and the buffer
+abbrev pub leftBy : Filled → Numbers → Caches → Filling Going
+leftBy r out c = filling (going (r .place) c) (r .used) (after out)
+
+abbrev pub left : Filled → (out m l e f : Numbers) → Filling Going
+left r out m l e f = leftBy r out (returned m l e f)
+
+abbrev pub wroteIn : Did → ℕ → Numbers → Filling Going
+wroteIn r used out = wroteLine r used (before out)
 
 module _ (s : List ℕ) (d : Dims) where
   abbrev pub goesOn : Going → Bool

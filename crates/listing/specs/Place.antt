@@ -5,15 +5,11 @@ use Prim.Native.Nat.{ℕ, _+_}
 use lib.Dec.{eqb, ltb, leb}
 use lib.ListN.{length}
 use Rattle.laws.specs.Choice.{pick}
-use Rattle.entry.specs.Refusals.{accepted}
+use Rattle.entry.specs.Refusals.{accepted, wrongHeader, unless}
 use Rattle.text.specs.Quoted.{bytes}
 use Rattle.text.specs.Names.{sameText}
 use Rattle.text.specs.Records.{recordEnd}
 use Rattle.listing.specs.declared.places.Place.{Place}
-
--- 13: "another header of any length, or empty input, is 13"
-abbrev pub wrongHeader : ℕ
-wrongHeader = 13
 
 -- What the next line is: the listing's own header, a refusal before any record, a record's, END, or none.
 abbrev pub HEADER : ℕ
@@ -52,15 +48,19 @@ phaseAt s at = pick (ltb at (length s)) RECORD END
 
 -- what comes after the listing's own header
 unfoldable pub firstPhase : List ℕ → Place → ℕ
-firstPhase s x = pick (eqb (x .refusal) accepted) (phaseAt s (x .at)) REFUSAL
+firstPhase s x = unless (eqb (x .refusal) accepted) REFUSAL (phaseAt s (x .at))
 
 -- "The header is `grant,core,op,word,value`"
 unfoldable pub headerOk : List ℕ → Bool
 headerOk s = sameText s 0 (recordEnd s 0) (bytes "grant,core,op,word,value")
 
--- where the replay of a text begins, on a machine whose making was answered by n: refused, with n or 13, or at its first record
+-- the first line is the listing's own header; after it comes a refusal, unless n is 0, or the first record, at a place of the input
+abbrev pub firstPlace : ℕ → ℕ → Place
+firstPlace n at = placeOf HEADER n at 0 false 0 0 0
+
+-- Where the replay of a text begins, on a machine whose making was answered by n. 13: "another header of any length, or empty input".
 unfoldable pub beginAt : List ℕ → ℕ → Place
 beginAt s n =
-    let refused = placeOf HEADER n 0 0 false 0 0 0 in
-    let wrong = placeOf HEADER wrongHeader 0 0 false 0 0 0 in
-    pick (eqb n accepted) (pick (headerOk s) (placeOf HEADER accepted (past s (recordEnd s 0)) 0 false 0 0 0) wrong) refused
+    unless (eqb n accepted) (firstPlace n 0)
+    (unless (headerOk s) (firstPlace wrongHeader 0)
+    (firstPlace accepted (past s (recordEnd s 0))))

@@ -1,18 +1,18 @@
 -- One record: what it is refused by, what the machine answers, and where the replay stands after it.
 use mathlib.Core.Bool.{Bool, true}
 use mathlib.Core.List.{List}
-use Prim.Native.Nat.{ℕ, _%_}
-use lib.Dec.{eqb, ltb}
+use Prim.Native.Nat.{ℕ}
+use lib.Dec.{eqb, ltb, leb}
 use Rattle.laws.specs.Choice.{pick}
 use Rattle.entry.specs.declared.answer.Answer.{Answer}
 use Rattle.entry.specs.declared.answer.Answer.the-variants.{Value, Done, Success, Failure, True, False, Aborted, Refused}
 use Rattle.entry.specs.declared.answer.Answered.{Answered}
-use Rattle.entry.specs.Numbers.{INTERRUPT}
-use Rattle.entry.specs.Answer.{cyclesOf, refusedBy}
+use Rattle.entry.specs.Refusals.{accepted, notRising, tooLong, unless}
+use Rattle.entry.specs.Step.{step}
+use Rattle.entry.specs.Answer.{refusalNumber, cyclesOf}
 use Rattle.rules.specs.declared.Dims.{Dims}
-use Rattle.rules.specs.State.{Caches, Outcome, outcome}
-use Rattle.entry.specs.Refusals.{accepted, noSuchStep}
-use Rattle.rules.specs.Step.{stepRefusal, takeStep}
+use Rattle.rules.specs.State.{Caches, Outcome}
+use Rattle.rules.specs.Step.{refused, takeStep}
 use Rattle.text.specs.declared.records.Record.{Record}
 use Rattle.text.specs.declared.records.Record.the-variants as record-is
 use Rattle.text.specs.declared.records.Parsed.{Parsed}
@@ -21,14 +21,6 @@ use Rattle.listing.specs.declared.places.Place.{Place}
 use Rattle.listing.specs.declared.records.Looked.{Looked}
 use Rattle.listing.specs.Place.{END, placeOf, more64, past, phaseAt}
 
--- 12: "Grants must rise above the last taken (not refused) record's, else 12"
-abbrev pub notRising : ℕ
-notRising = 12
-
--- 14: "The record that holds input byte 4,194,305, its CRLF included, is 14"
-abbrev pub tooLong : ℕ
-tooLong = 14
-
 abbrev pub mostBytes : ℕ
 mostBytes = 4194304
 
@@ -36,35 +28,32 @@ mostBytes = 4194304
 unfoldable pub rises : Place → ℕ → Bool
 rises x grant = pick (x .taken) (ltb (x .grant) grant) true
 
--- 6, 12, 7, 8
-unfoldable pub fieldsRefusal : Dims → Place → Parsed → ℕ
-fieldsRefusal d x f =
-    pick (ltb INTERRUPT (f .op)) noSuchStep (pick (rises x (f .grant)) (stepRefusal d (f .op) (f .core) (f .word)) notRising)
+-- 12: "Grants must rise above the last taken (not refused) record's, else 12"
+unfoldable pub grantRefusal : Place → ℕ → ℕ
+grantRefusal x grant = unless (rises x grant) notRising accepted
 
 abbrev pub noFields : Parsed
-noFields = record { grant = 0; core = 0; op = 0; word = 0; value = 0 }
+noFields = record { grant = 0; step = step 0 0 0 0 }
 
 -- where the next record begins, the refusal or 0, and the fields
 abbrev pub looked : ℕ → ℕ → Parsed → Looked
 looked next refusal fields = record { next = next; refusal = refusal; fields = fields }
 
-abbrev pub lookedIn : Dims → Place → ℕ → Record → Looked
-lookedIn d x next (record-is.Refused n) = looked next n noFields
-lookedIn d x next (record-is.Fields f) = looked next (fieldsRefusal d x f) f
+abbrev pub lookedIn : Place → ℕ → Record → Looked
+lookedIn x next (record-is.Refused n) = looked next n noFields
+lookedIn x next (record-is.Fields f) = looked next (grantRefusal x (f .grant)) f
 
--- "Order in a record: 14, 11, 6, 12, 7, 8."
-unfoldable pub lookAt : List ℕ → Dims → Place → Looked
-lookAt s d x =
+-- "Order in a record: 14, 11, 6, 12, 7, 8": 11 and 6 are the record's own, 7 and 8 the step's. 14: "The record that holds input byte
+-- 4,194,305, its CRLF included".
+unfoldable pub lookAt : List ℕ → Place → Looked
+lookAt s x =
     let end = recordEnd s (x .at) in
     let next = past s end in
-    pick (ltb mostBytes next) (looked next tooLong noFields) (lookedIn d x next (recordOf s (x .at) end))
+    unless (leb next mostBytes) (looked next tooLong noFields) (lookedIn x next (recordOf s (x .at) end))
 
--- "A refused record prints and is skipped." The remainder keeps a word that no step uses inside a byte; it changes nothing else
--- (proofs/Words).
+-- "A refused record prints and is skipped."
 unfoldable pub answerOf : Dims → Looked → Caches → Outcome
-answerOf d l c =
-    let f = l .fields in
-    pick (eqb (l .refusal) accepted) (takeStep d (f .op) (f .core) (f .word % 256) (f .value) c) (outcome (refusedBy (l .refusal)) c)
+answerOf d l c = unless (eqb (l .refusal) accepted) (refused (l .refusal) c) (takeStep d (l .fields .step) c)
 
 abbrev pub isSuccess : Answer → ℕ
 isSuccess (Value v) = 0
@@ -80,10 +69,10 @@ isSuccess (Refused n) = 0
 unfoldable pub phaseAfter : List ℕ → Looked → ℕ
 phaseAfter s l = pick (eqb (l .refusal) tooLong) END (phaseAt s (l .next))
 
+-- A record is "taken (not refused)" where its answer is no refusal, and its grant is then the last taken record's.
 unfoldable pub placeAfter : List ℕ → Place → Looked → Answered → Place
 placeAfter s x l a =
-    let f = l .fields in
-    let ok = eqb (l .refusal) accepted in
+    let taken = eqb (refusalNumber (a .answer)) accepted in
     placeOf (phaseAfter s l) (x .refusal) (l .next) (more64 (x .number) 1)
-    (pick ok true (x .taken)) (pick ok (f .grant) (x .grant))
+    (pick taken true (x .taken)) (pick taken (l .fields .grant) (x .grant))
     (more64 (x .commits) (isSuccess (a .answer))) (more64 (x .cycles) (cyclesOf (a .counts)))

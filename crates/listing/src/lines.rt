@@ -16,19 +16,19 @@ ghost use Rattle.rules.specs.Lent.{before, after};
 // No line is longer.
 pub(crate) const LINE_MOST: usize = 72;
 
+// The answers' names in the order of their numbers. Name k is what stands from the k-th start up to the next.
+const NAMES: [u8; 46] = *b"VALUEDONESUCCESSFAILURETRUEFALSEABORTEDREFUSED";
+
+const STARTS: [u8; 9] = [0, 5, 9, 16, 23, 27, 32, 39, 46];
+
 fn put_name(out: &mut [u8], at: usize, answer: Answer) -> usize
     ensures { λ r. ⌜ filled r (after out) ≡ putOf (bytes (answerName answer)) (filled at (before out)) ⌝ }
 {
-    match answer {
-        Answer::Value(_) => put_bytes(out, at, b"VALUE"),
-        Answer::Done => put_bytes(out, at, b"DONE"),
-        Answer::Success => put_bytes(out, at, b"SUCCESS"),
-        Answer::Failure => put_bytes(out, at, b"FAILURE"),
-        Answer::True => put_bytes(out, at, b"TRUE"),
-        Answer::False => put_bytes(out, at, b"FALSE"),
-        Answer::Aborted => put_bytes(out, at, b"ABORTED"),
-        Answer::Refused(_) => put_bytes(out, at, b"REFUSED"),
-    }
+    let names = NAMES;
+    let k = answer.number() as usize;
+    let a = STARTS[k] as usize;
+    let e = STARTS[k + 1] as usize;
+    put_bytes(out, at, &names[a..e])
 }
 
 // A refusal shows its number, every other answer its value.

@@ -27,9 +27,8 @@ ghost use lib.Dec.{leb};
 ghost use lib.ListN.{length};
 ghost use Rattle.rules.specs.State.{Caches};
 ghost use Rattle.listing.specs.Lines.{mostLine};
-ghost use Rattle.listing.specs.Pieces.{filling};
-ghost use Rattle.listing.specs.Listing.{going, doRecord, doOther, doLine, wroteLine, fillOf};
-ghost use Rattle.rules.specs.Lent.{before, after, lent, returned};
+ghost use Rattle.listing.specs.Listing.{going, leftBy, left, wroteIn, doRecord, doOther, doLine, fillOf};
+ghost use Rattle.rules.specs.Lent.{before, lent};
 
 // Where the replay stands, and how much of the buffer is written.
 pub struct Filled {
@@ -49,9 +48,9 @@ fn do_record(
     x: Place,
 ) -> Filled
     requires { ⌜ used + mostLine ≤ length (now out) ⌝ }
-    ensures { λ r. ⌜ filling (going (r .place) (returned memory lines entries flags)) (r .used) (after out) ≡ wroteLine (doRecord (before s) d x (lent memory lines entries flags)) used (before out) ⌝ }
+    ensures { λ r. ⌜ left r out memory lines entries flags ≡ wroteIn (doRecord (before s) d x (lent memory lines entries flags)) used out ⌝ }
 {
-    let l = look_at(s, d, x);
+    let l = look_at(s, x);
     let told = answer_of(memory, lines, entries, flags, d, l);
     let number = more(x.number, 1);
     let k = write_answer(out, used, number, told);
@@ -65,7 +64,7 @@ fn do_record(
 // The header, a refusal before any record, or the end.
 fn do_other(s: &[u8], out: &mut [u8], used: usize, x: Place) -> Filled
     requires { ⌜ used + mostLine ≤ length (now out) ⌝ }
-    ensures { λ r. ⌜ ((c : Caches) → filling (going (r .place) c) (r .used) (after out) ≡ wroteLine (doOther (before s) x c) used (before out)) ⌝ }
+    ensures { λ r. ⌜ ((c : Caches) → leftBy r out c ≡ wroteIn (doOther (before s) x c) used out) ⌝ }
 {
     if x.phase == HEADER {
         let k = write_header(out, used);
@@ -105,7 +104,7 @@ fn do_line(
     x: Place,
 ) -> Filled
     requires { ⌜ used + mostLine ≤ length (now out) ⌝ }
-    ensures { λ r. ⌜ filling (going (r .place) (returned memory lines entries flags)) (r .used) (after out) ≡ wroteLine (doLine (before s) d x (lent memory lines entries flags)) used (before out) ⌝ }
+    ensures { λ r. ⌜ left r out memory lines entries flags ≡ wroteIn (doLine (before s) d x (lent memory lines entries flags)) used out ⌝ }
 {
     if x.phase == RECORD {
         return do_record(s, out, used, memory, lines, entries, flags, d, x);
@@ -132,7 +131,7 @@ pub(crate) fn fill(
     d: Dims,
     first: Place,
 ) -> Filled
-    ensures { λ r. ⌜ filling (going (r .place) (returned memory lines entries flags)) (r .used) (after out) ≡ fillOf (before s) d (going first (lent memory lines entries flags)) (before out) ⌝ }
+    ensures { λ r. ⌜ left r out memory lines entries flags ≡ fillOf (before s) d (going first (lent memory lines entries flags)) (before out) ⌝ }
 {
     let room = out.len();
     let mut x = first;

@@ -1,10 +1,11 @@
 // Where a replay stands between two lines of its listing.
 
+use entry::refusals::ACCEPTED;
+use entry::refusals::WRONG_HEADER;
 use text::names::text_is;
 use text::records::record_end;
 ghost use mathlib.Core.Path.{_≡_};
-ghost use mathlib.Core.Bool.{false};
-ghost use Rattle.listing.specs.Place.{HEADER, placeOf, withPhase, more64, past, phaseAt, firstPhase, beginAt};
+ghost use Rattle.listing.specs.Place.{firstPlace, withPhase, more64, past, phaseAt, firstPhase, beginAt};
 ghost use Rattle.rules.specs.Lent.{before};
 
 // What the next line is, or that none is left.
@@ -17,8 +18,6 @@ pub(crate) const RECORD: u8 = 2;
 pub(crate) const END: u8 = 3;
 
 pub(crate) const NOTHING: u8 = 4;
-
-const WRONG_HEADER: u8 = 13;
 
 // refusal is the machine's or the header's; at is where the next record begins, number the last record's; taken says whether a record
 // was, and grant is the last such record's.
@@ -66,7 +65,7 @@ pub(crate) fn phase_at(s: &[u8], at: usize) -> u8
 pub(crate) fn first_phase(s: &[u8], x: Place) -> u8
     ensures { λ r. ⌜ r ≡ firstPhase (before s) x ⌝ }
 {
-    if x.refusal != 0 {
+    if x.refusal != ACCEPTED {
         return REFUSAL;
     }
     phase_at(s, x.at)
@@ -88,7 +87,7 @@ pub(crate) fn with_phase(x: Place, phase: u8) -> Place
 }
 
 fn first_place(refusal: u8, at: usize) -> Place
-    ensures { λ r. ⌜ r ≡ placeOf HEADER refusal at 0 false 0 0 0 ⌝ }
+    ensures { λ r. ⌜ r ≡ firstPlace refusal at ⌝ }
 {
     Place {
         phase: HEADER,
@@ -105,12 +104,12 @@ fn first_place(refusal: u8, at: usize) -> Place
 pub(crate) fn begin_at(s: &[u8], made: u8) -> Place
     ensures { λ r. ⌜ r ≡ beginAt (before s) made ⌝ }
 {
-    if made != 0 {
+    if made != ACCEPTED {
         return first_place(made, 0);
     }
     let end = record_end(s, 0);
     if !text_is(s, 0, end, b"grant,core,op,word,value") {
         return first_place(WRONG_HEADER, 0);
     }
-    first_place(0, past(s, end))
+    first_place(ACCEPTED, past(s, end))
 }

@@ -7,7 +7,10 @@ use crate::places::past;
 use crate::places::phase_at;
 use entry::answer::Answer;
 use entry::answer::Answered;
-use entry::numbers::INTERRUPT;
+use entry::refusals::ACCEPTED;
+use entry::refusals::NOT_RISING;
+use entry::refusals::TOO_LONG;
+use entry::step::Step;
 use rules::Copies;
 use rules::Dims;
 use rules::Flags;
@@ -18,14 +21,8 @@ use text::records::read_record;
 use text::records::record_end;
 ghost use mathlib.Core.Path.{_≡_};
 ghost use Rattle.rules.specs.State.{outcome};
-ghost use Rattle.listing.specs.Records.{rises, fieldsRefusal, looked, lookAt, answerOf, isSuccess, phaseAfter, placeAfter, noFields};
+ghost use Rattle.listing.specs.Records.{rises, grantRefusal, looked, lookAt, answerOf, isSuccess, phaseAfter, placeAfter, noFields};
 ghost use Rattle.rules.specs.Lent.{before, lent, returned};
-
-const NO_SUCH_STEP: u8 = 6;
-
-const NOT_RISING: u8 = 12;
-
-const TOO_LONG: u8 = 14;
 
 // The record that holds the byte after these is too long.
 const BYTES_MOST: usize = 4194304;
@@ -46,27 +43,27 @@ fn rises(x: Place, grant: u32) -> bool
     true
 }
 
-fn fields_refusal(d: Dims, x: Place, f: Parsed) -> u8
-    ensures { λ r. ⌜ r ≡ fieldsRefusal d x f ⌝ }
+fn grant_refusal(x: Place, grant: u32) -> u8
+    ensures { λ r. ⌜ r ≡ grantRefusal x grant ⌝ }
 {
-    if f.op > INTERRUPT {
-        return NO_SUCH_STEP;
-    }
-    if !rises(x, f.grant) {
+    if !rises(x, grant) {
         return NOT_RISING;
     }
-    steps::step_refusal(d, f.op, f.core as usize, f.word)
+    ACCEPTED
 }
 
 fn unread(next: usize, refusal: u8) -> Looked
     ensures { λ r. ⌜ r ≡ looked next refusal noFields ⌝ }
 {
-    let none = Parsed {
-        grant: 0,
-        core: 0,
+    let nothing = Step {
         op: 0,
+        core: 0,
         word: 0,
         value: 0,
+    };
+    let none = Parsed {
+        grant: 0,
+        step: nothing,
     };
     Looked {
         next: next,
@@ -75,8 +72,8 @@ fn unread(next: usize, refusal: u8) -> Looked
     }
 }
 
-pub(crate) fn look_at(s: &[u8], d: Dims, x: Place) -> Looked
-    ensures { λ r. ⌜ r ≡ lookAt (before s) d x ⌝ }
+pub(crate) fn look_at(s: &[u8], x: Place) -> Looked
+    ensures { λ r. ⌜ r ≡ lookAt (before s) x ⌝ }
 {
     let at = x.at;
     let end = record_end(s, at);
@@ -87,7 +84,7 @@ pub(crate) fn look_at(s: &[u8], d: Dims, x: Place) -> Looked
     match read_record(s, at, end) {
         Record::Refused(n) => unread(next, n),
         Record::Fields(f) => {
-            let k = fields_refusal(d, x, f);
+            let k = grant_refusal(x, f.grant);
             Looked {
                 next: next,
                 refusal: k,
@@ -97,7 +94,7 @@ pub(crate) fn look_at(s: &[u8], d: Dims, x: Place) -> Looked
     }
 }
 
-// A record that is not refused uses a word below 256, or none.
+// A refused record changes nothing.
 pub(crate) fn answer_of(
     memory: &mut Memory,
     lines: &mut Copies,
@@ -108,13 +105,11 @@ pub(crate) fn answer_of(
 ) -> Answered
     ensures { λ r. ⌜ outcome r (returned memory lines entries flags) ≡ answerOf d l (lent memory lines entries flags) ⌝ }
 {
-    if l.refusal != 0 {
+    if l.refusal != ACCEPTED {
         return Answered::refused(l.refusal);
     }
     let f = l.fields;
-    let p = f.core as usize;
-    let word = (f.word % 256) as u8;
-    steps::take_step(memory, lines, entries, flags, d, f.op, p, word, f.value)
+    steps::take_step(memory, lines, entries, flags, d, f.step)
 }
 
 fn successes(answer: Answer) -> u64
@@ -152,7 +147,7 @@ pub(crate) fn place_after(s: &[u8], x: Place, l: Looked, told: Answered) -> Plac
     let cycles = more(x.cycles, counts.cycles());
     let mut taken = x.taken;
     let mut grant = x.grant;
-    if l.refusal == 0 {
+    if answer.refusal() == ACCEPTED {
         let f = l.fields;
         taken = true;
         grant = f.grant;

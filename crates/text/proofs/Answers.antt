@@ -1,69 +1,63 @@
--- A record is read, or refused by 11 and no other number; and what its op can be. Assumes nothing.
+-- A record is read, and its op is then a step's number, or it is refused by 11 or 6 and no other number. Assumes nothing.
 use mathlib.Core.Path.{_≡_, refl}
 use mathlib.Core.Bool.{Bool, true, false}
 use mathlib.Core.List.{List, [], _∷_}
-use Prim.Native.Nat.{ℕ, _+_, _≤_, _<_}
+use Prim.Native.Nat.{ℕ, _+_, _≤_}
 use native.Mathlib.Omega.{arith}
-use lib.Dec.{eqb}
-use Rattle.laws.specs.Choice.{pick, either}
+use borrow.Author.Tests.{ltb-true}
+use lib.Dec.{ltb}
+use lib.ListN.{length}
+use Rattle.laws.specs.Choice.{pick}
 use Rattle.entry.specs.Numbers.{INTERRUPT}
+use Rattle.entry.specs.Refusals.{malformed, noSuchStep}
+use Rattle.entry.specs.Step.{among}
 use Rattle.text.specs.declared.decimals.Field.{Field}
 use Rattle.text.specs.declared.decimals.Field.the-variants.{Number, Bad}
+use Rattle.text.specs.declared.names.Named.{Named}
+use Rattle.text.specs.declared.names.Named.the-variants.{Step, Nothing}
+use Rattle.text.specs.declared.records.Record.{Record}
+use Rattle.text.specs.declared.records.Record.the-variants.{Fields, Refused}
 use Rattle.text.specs.declared.records.Split.{Split}
 use Rattle.text.specs.declared.records.Split.the-variants as split
-use Rattle.text.specs.Marks.{MALFORMED}
 use Rattle.text.specs.Decimals.{fieldOf}
-use Rattle.text.specs.Names.{NO-STEP, wordNames, otherNames, nameIn, sameText, otherStepOf, namedStep}
-use Rattle.text.specs.Records.{recordRefusal, parsedOf, recordIn, splitOf, recordOf}
+use Rattle.text.specs.Names.{stepNames, firstNamed, namedStep}
+use Rattle.text.specs.Records.{parsedOf, recordIn, splitOf, recordOf}
 
-pub parsed-refusal : (op : ℕ) (g c w v : Field) →
-    either (eqb (recordRefusal (parsedOf op g c w v)) 0) (eqb (recordRefusal (parsedOf op g c w v)) MALFORMED) ≡ true
-parsed-refusal op Bad c w v = refl
-parsed-refusal op (Number g) Bad w v = refl
-parsed-refusal op (Number g) (Number c) Bad v = refl
-parsed-refusal op (Number g) (Number c) (Number w) Bad = refl
-parsed-refusal op (Number g) (Number c) (Number w) (Number v) = refl
+abbrev pub KnownStep : Named → Type 0
+KnownStep (Step k) = k ≤ INTERRUPT
+KnownStep Nothing = Unit
 
-pub record-refusal : (s : List ℕ) (from end : ℕ) →
-    either (eqb (recordRefusal (recordOf s from end)) 0) (eqb (recordRefusal (recordOf s from end)) MALFORMED) ≡ true
-unfolding recordOf
-record-refusal s from end = by (splitOf s from end)
+abbrev pub Known : Record → Type 0
+Known (Fields f) = f .step .op ≤ INTERRUPT
+Known (Refused n) = among n (malformed ∷ noSuchStep ∷ []) ≡ true
+
+pub name-known : (s : List ℕ) (from end : ℕ) → KnownStep (namedStep s from end)
+unfolding namedStep
+name-known s from end = by (ltb (firstNamed s from end) (length stepNames)) refl
   where
-    by : (x : Split) →
-        either (eqb (recordRefusal (recordIn s from end x)) 0) (eqb (recordRefusal (recordIn s from end x)) MALFORMED) ≡ true
+    by : (b : Bool) → ltb (firstNamed s from end) (length stepNames) ≡ b → KnownStep (pick b (Step (firstNamed s from end)) Nothing)
+    by true e = omega (arith, ltb-true (firstNamed s from end) (length stepNames) e)
+    by false e = tt
+
+pub parsed-known : (g c w v : Field) (op : Named) → KnownStep op → Known (parsedOf g c w v op)
+parsed-known Bad c w v op h = refl
+parsed-known (Number g) Bad w v op h = refl
+parsed-known (Number g) (Number c) Bad v op h = refl
+parsed-known (Number g) (Number c) (Number w) Bad op h = refl
+parsed-known (Number g) (Number c) (Number w) (Number v) Nothing h = refl
+parsed-known (Number g) (Number c) (Number w) (Number v) (Step k) h = h
+
+pub record-known : (s : List ℕ) (from end : ℕ) → Known (recordOf s from end)
+unfolding recordOf
+record-known s from end = by (splitOf s from end)
+  where
+    by : (x : Split) → Known (recordIn s from end x)
+    by split.Bad = refl
     by (split.Fields cs) =
-        parsed-refusal
-        (namedStep s (cs .b + 1) (cs .c))
+        parsed-known
         (fieldOf s from (cs .a))
         (fieldOf s (cs .a + 1) (cs .b))
         (fieldOf s (cs .c + 1) (cs .d))
         (fieldOf s (cs .d + 1) end)
-    by split.Bad = refl
-
--- An op is a step's number, or none: above 8 it is NO-STEP.
-pub Known : List (List ℕ × ℕ) → Type 0
-Known [] = Unit
-Known (n ∷ ns) = (n .1 ≤ INTERRUPT) × Known ns
-
-pub name-known : (s : List ℕ) (from end : ℕ) (ns : List (List ℕ × ℕ)) (k : ℕ) → Known ns → (INTERRUPT < k → k ≡ NO-STEP) →
-    INTERRUPT < nameIn s from end ns k → nameIn s from end ns k ≡ NO-STEP
-unfolding Known
-name-known s from end [] k o g h = g h
-name-known s from end (n ∷ ns) k o g h = by (sameText s from end (n .0)) (name-known s from end ns k (o .1) g) h
-  where
-    by : (b : Bool) → (INTERRUPT < nameIn s from end ns k → nameIn s from end ns k ≡ NO-STEP) →
-        INTERRUPT < pick b (n .1) (nameIn s from end ns k) → pick b (n .1) (nameIn s from end ns k) ≡ NO-STEP
-    by true ih l = absurd (omega (arith, o .0))
-    by false ih l = ih l
-
-pub other-known : (s : List ℕ) (from end : ℕ) → INTERRUPT < otherStepOf s from end → otherStepOf s from end ≡ NO-STEP
-unfolding otherStepOf Known
-other-known s from end =
-    name-known s from end otherNames NO-STEP (omega arith, (omega arith, (omega arith, (omega arith, tt)))) (λ h. refl)
-
-pub step-known : (s : List ℕ) (from end : ℕ) → INTERRUPT < namedStep s from end → namedStep s from end ≡ NO-STEP
-unfolding namedStep Known
-step-known s from end =
-    name-known s from end wordNames (otherStepOf s from end)
-    (omega arith, (omega arith, (omega arith, (omega arith, (omega arith, tt)))))
-    (other-known s from end)
+        (namedStep s (cs .b + 1) (cs .c))
+        (name-known s (cs .b + 1) (cs .c))

@@ -1,5 +1,6 @@
 pub mod Cases
 pub mod Inside
+pub mod Tables
 pub mod Puts
 pub mod Ends
 pub mod Answers

@@ -8,14 +8,17 @@ use Rattle.laws.specs.Choice.{both}
 use Rattle.laws.specs.Search.{firstFrom}
 use Rattle.laws.specs.Fold.{foldRange}
 use Rattle.entry.specs.Numbers.{LOAD, STORE, LT, LTX, ST, COMMIT, ABORT, VALIDATE, INTERRUPT}
+use Rattle.entry.specs.Refusals.{malformed, noSuchStep}
+use Rattle.entry.specs.Step.{step}
 use Rattle.text.specs.declared.records.Record.{Record}
 use Rattle.text.specs.declared.records.Record.the-variants.{Fields, Refused}
 use Rattle.text.specs.Quoted.{bytes}
-use Rattle.text.specs.Marks.{CR, LF, MALFORMED, findOf}
+use Rattle.text.specs.Marks.{CR, LF, findOf}
 use Rattle.text.specs.Decimals.{push, fieldOf}
-use Rattle.text.specs.Names.{NO-STEP, unlikeOf, sameText, otherStepOf, namedStep}
+use Rattle.text.specs.Names.{unlikeOf, sameText, isName, namedStep}
 use Rattle.text.specs.Records.{recordEnd, plainOf, splitOf, recordOf}
 use Rattle.text.specs.Writing.{widthFrom, widthOf, digits, decimal}
+use Rattle.text.proofs.Tables.{sameBytes}
 
 pub record Row : Type 0 where
   pub text : String
@@ -26,13 +29,17 @@ row t r = record { text = t; is = r }
 
 -- grant, core, op, word, value
 abbrev reads : ℕ → ℕ → ℕ → ℕ → ℕ → Record
-reads g c o w v = Fields (record { grant = g; core = c; op = o; word = w; value = v })
+reads g c o w v = Fields (record { grant = g; step = step o c w v })
 
-abbrev malformed : Record
-malformed = Refused MALFORMED
+-- 11 and 6
+abbrev malformedRecord : Record
+malformedRecord = Refused malformed
+
+abbrev noStep : Record
+noStep = Refused noSuchStep
 
 pub rows : List Row
-unfolding row reads malformed
+unfolding row reads malformedRecord noStep
 rows =
     -- the worked example
     row "10,0,LTX,5,0" (reads 10 0 LTX 5 0) ∷
@@ -50,33 +57,33 @@ rows =
     row "1,2,INTERRUPT,3,4" (reads 1 2 INTERRUPT 3 4) ∷
     -- "at most 4294967295, at least one digit, no leading zero but for 0"
     row "0,0,LT,0,4294967295" (reads 0 0 LT 0 4294967295) ∷
-    row "0,0,LT,0,4294967296" malformed ∷
-    row "4294967296,0,LT,0,0" malformed ∷
-    row "01,0,LT,5,0" malformed ∷
-    row "1,00,LT,5,0" malformed ∷
-    row "1,0,COMMIT,," malformed ∷
-    row "1,0,LT,5,+7" malformed ∷
-    row "1,0,LT, 5,7" malformed ∷
+    row "0,0,LT,0,4294967296" malformedRecord ∷
+    row "4294967296,0,LT,0,0" malformedRecord ∷
+    row "01,0,LT,5,0" malformedRecord ∷
+    row "1,00,LT,5,0" malformedRecord ∷
+    row "1,0,COMMIT,," malformedRecord ∷
+    row "1,0,LT,5,+7" malformedRecord ∷
+    row "1,0,LT, 5,7" malformedRecord ∷
     -- "five unquoted fields"
-    row "" malformed ∷
-    row "1,0,LT,5" malformed ∷
-    row "1,0,LT,5,0," malformed ∷
-    row "1,0,\"LT\",5,0" malformed ∷
-    row "1,0,LT,5,0\"" malformed ∷
+    row "" malformedRecord ∷
+    row "1,0,LT,5" malformedRecord ∷
+    row "1,0,LT,5,0," malformedRecord ∷
+    row "1,0,\"LT\",5,0" malformedRecord ∷
+    row "1,0,LT,5,0\"" malformedRecord ∷
     -- "At most 64 bytes before its CRLF": 64, and 65
-    row "1,0,AAAAAAAAAAAAAAAAAAAAAAAAAAAAAAAAAAAAAAAAAAAAAAAAAAAAAAAA,5,0" (reads 1 0 NO-STEP 5 0) ∷
-    row "1,0,AAAAAAAAAAAAAAAAAAAAAAAAAAAAAAAAAAAAAAAAAAAAAAAAAAAAAAAAA,5,0" malformed ∷
+    row "1,0,AAAAAAAAAAAAAAAAAAAAAAAAAAAAAAAAAAAAAAAAAAAAAAAAAAAAAAAA,5,0" noStep ∷
+    row "1,0,AAAAAAAAAAAAAAAAAAAAAAAAAAAAAAAAAAAAAAAAAAAAAAAAAAAAAAAAA,5,0" malformedRecord ∷
     -- "any other text there is 6, not 11", and 11 comes before 6
-    row "1,0,LOOK,5,0" (reads 1 0 NO-STEP 5 0) ∷
-    row "1,0,,5,0" (reads 1 0 NO-STEP 5 0) ∷
-    row "1,0,lt,5,0" (reads 1 0 NO-STEP 5 0) ∷
-    row "1,0,LTXX,5,0" (reads 1 0 NO-STEP 5 0) ∷
-    row "1,0,LOOK,x,0" malformed ∷
+    row "1,0,LOOK,5,0" noStep ∷
+    row "1,0,,5,0" noStep ∷
+    row "1,0,lt,5,0" noStep ∷
+    row "1,0,LTXX,5,0" noStep ∷
+    row "1,0,LOOK,x,0" malformedRecord ∷
     -- "lone CR or LF counts as a byte of the record"
-    row "1,0,LT\r,5,0" (reads 1 0 NO-STEP 5 0) ∷
-    row "1,0,\nLT,5,0" (reads 1 0 NO-STEP 5 0) ∷
-    row "1,0,LT,5,0\r" malformed ∷
-    row "\n1,0,LT,5,0" malformed ∷
+    row "1,0,LT\r,5,0" noStep ∷
+    row "1,0,\nLT,5,0" noStep ∷
+    row "1,0,LT,5,0\r" malformedRecord ∷
+    row "\n1,0,LT,5,0" malformedRecord ∷
     []
 
 pub record Number : Type 0 where
@@ -99,21 +106,15 @@ numbers =
 abbrev pub sameRecord : Record → Record → Bool
 sameRecord (Fields p) (Fields q) =
     both (eqb (p .grant) (q .grant))
-    (both (eqb (p .core) (q .core))
-    (both (eqb (p .op) (q .op)) (both (eqb (p .word) (q .word)) (eqb (p .value) (q .value)))))
+    (both (eqb (p .step .core) (q .step .core))
+    (both (eqb (p .step .op) (q .step .op)) (both (eqb (p .step .word) (q .step .word)) (eqb (p .step .value) (q .step .value)))))
 sameRecord (Fields p) (Refused n) = false
 sameRecord (Refused m) (Fields q) = false
 sameRecord (Refused m) (Refused n) = eqb m n
 
-abbrev pub sameBytes : List ℕ → List ℕ → Bool
-sameBytes [] [] = true
-sameBytes [] (b ∷ t) = false
-sameBytes (a ∷ s) [] = false
-sameBytes (a ∷ s) (b ∷ t) = both (eqb a b) (sameBytes s t)
-
 -- the first record of an input
 pub firstRecord : List ℕ → Record
-unfolding recordEnd firstFrom plainOf findOf splitOf push foldRange fieldOf unlikeOf sameText otherStepOf namedStep recordOf
+unfolding recordEnd firstFrom plainOf findOf splitOf push foldRange fieldOf unlikeOf sameText isName namedStep recordOf
 firstRecord s = recordOf s 0 (recordEnd s 0)
 
 pub rowHolds : Row → Bool

@@ -4,14 +4,15 @@ use mathlib.Core.List.{List}
 use lib.Dec.{eqb, leb, ltb}
 use Rattle.laws.specs.Choice.{pick}
 use Rattle.laws.specs.Fold.{foldRange}
+use Rattle.entry.specs.Refusals.{accepted, malformed}
 use Rattle.text.specs.declared.decimals.Field.{Field}
 use Rattle.text.specs.declared.decimals.Field.the-variants.{Number, Bad}
-use Rattle.text.specs.Marks.{DIGIT-ZERO, DIGIT-NINE, NUMBER-MOST, MALFORMED, byteAt}
+use Rattle.text.specs.Marks.{DIGIT-ZERO, DIGIT-NINE, NUMBER-MOST, byteAt}
 
 -- What a field's two cases stand for: a number that is read is no refusal, one that is not is "11".
 abbrev pub fieldRefusal : Field → ℕ
-fieldRefusal (Number v) = 0
-fieldRefusal Bad = MALFORMED
+fieldRefusal (Number v) = accepted
+fieldRefusal Bad = malformed
 
 -- One more digit: "numbers are decimal, at most 4294967295". A byte that is no digit, or a number above that, is bad, and stays so.
 unfoldable pub push : ℕ → Field → Field

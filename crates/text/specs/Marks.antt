@@ -32,10 +32,6 @@ RECORD-MOST = 64
 abbrev pub NUMBER-MOST : ℕ
 NUMBER-MOST = 4294967295
 
--- "Otherwise, or with a quote mark anywhere, 11"
-abbrev pub MALFORMED : ℕ
-MALFORMED = 11
-
 -- The byte at a place, 0 past the end: 0 is no digit, no comma, no quote mark, and neither CR nor LF.
 abbrev pub byteAt : List ℕ → ℕ → ℕ
 byteAt s i = getD s i 0

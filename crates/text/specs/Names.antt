@@ -3,10 +3,12 @@ use Prim.Native.Nat.{ℕ, _+_, _-_}
 use mathlib.Core.Bool.{Bool, false, not}
 use mathlib.Core.List.{List, [], _∷_}
 use lib.Dec.{eqb, ltb}
-use lib.ListN.{length}
+use lib.ListN.{length, getD}
 use Rattle.laws.specs.Choice.{pick}
 use Rattle.laws.specs.Search.{firstFrom}
-use Rattle.entry.specs.Numbers.{LOAD, STORE, LT, LTX, ST, COMMIT, ABORT, VALIDATE, INTERRUPT}
+use Rattle.entry.specs.Refusals.{accepted, noSuchStep}
+use Rattle.text.specs.declared.names.Named.{Named}
+use Rattle.text.specs.declared.names.Named.the-variants.{Step, Nothing}
 use Rattle.text.specs.Marks.{byteAt}
 use Rattle.text.specs.Quoted.{bytes}
 
@@ -24,35 +26,32 @@ sameText s from end name =
     (pick (not (eqb (end - from) (length name))) false
     (eqb (unlikeOf s from (length name) name) (length name)))
 
--- "`op` is a name above in capitals": those of the steps that use a word, and the others.
-abbrev pub wordNames : List (List ℕ × ℕ)
-wordNames =
-    (bytes "LOAD", LOAD) ∷
-    (bytes "STORE", STORE) ∷
-    (bytes "LT", LT) ∷
-    (bytes "LTX", LTX) ∷
-    (bytes "ST", ST) ∷
+-- "Numbers: 0 LOAD, 1 STORE, 2 LT, 3 LTX, 4 ST, 5 COMMIT, 6 ABORT, 7 VALIDATE, 8 INTERRUPT": each name at its number
+abbrev pub stepNames : List (List ℕ)
+stepNames =
+    bytes "LOAD" ∷
+    bytes "STORE" ∷
+    bytes "LT" ∷
+    bytes "LTX" ∷
+    bytes "ST" ∷
+    bytes "COMMIT" ∷
+    bytes "ABORT" ∷
+    bytes "VALIDATE" ∷
+    bytes "INTERRUPT" ∷
     []
 
-abbrev pub otherNames : List (List ℕ × ℕ)
-otherNames =
-    (bytes "COMMIT", COMMIT) ∷
-    (bytes "ABORT", ABORT) ∷
-    (bytes "VALIDATE", VALIDATE) ∷
-    (bytes "INTERRUPT", INTERRUPT) ∷
-    []
+-- The text is the name of step k.
+unfoldable pub isName : List ℕ → ℕ → ℕ → ℕ → Bool
+isName s from end k = sameText s from end (getD stepNames k [])
 
--- "any other text there is 6, not 11": no number of a step, so above 8
-abbrev pub NO-STEP : ℕ
-NO-STEP = 255
+-- "`op` is a name above in capitals": the first step whose name the text is, and no step has another's name.
+abbrev pub firstNamed : List ℕ → ℕ → ℕ → ℕ
+firstNamed s from end = firstFrom (isName s from end) 0 (length stepNames)
 
--- The step whose name the text is, of a list, else k.
-abbrev pub nameIn : List ℕ → ℕ → ℕ → List (List ℕ × ℕ) → ℕ → ℕ
-nameIn s from end [] k = k
-nameIn s from end (n ∷ ns) k = pick (sameText s from end (n .0)) (n .1) (nameIn s from end ns k)
+unfoldable pub namedStep : List ℕ → ℕ → ℕ → Named
+namedStep s from end = let k = firstNamed s from end in pick (ltb k (length stepNames)) (Step k) Nothing
 
-unfoldable pub otherStepOf : List ℕ → ℕ → ℕ → ℕ
-otherStepOf s from end = nameIn s from end otherNames NO-STEP
-
-unfoldable pub namedStep : List ℕ → ℕ → ℕ → ℕ
-namedStep s from end = nameIn s from end wordNames (otherStepOf s from end)
+-- What the two cases stand for: "any other text there is 6, not 11".
+abbrev pub nameRefusal : Named → ℕ
+nameRefusal (Step k) = accepted
+nameRefusal Nothing = noSuchStep

@@ -1,24 +1,28 @@
 -- Records: where one ends, and what it holds.
 use Prim.Native.Nat.{ℕ, _+_, _-_}
-use mathlib.Core.Bool.{Bool, not}
+use mathlib.Core.Bool.{Bool}
 use mathlib.Core.List.{List}
 use lib.Dec.{eqb, leb, ltb}
 use lib.ListN.{length}
-use Rattle.laws.specs.Choice.{pick, both}
+use Rattle.laws.specs.Choice.{both}
 use Rattle.laws.specs.Search.{firstFrom}
+use Rattle.entry.specs.Refusals.{accepted, malformed, unless}
+use Rattle.entry.specs.Step.{step}
 use Rattle.text.specs.declared.decimals.Field.{Field}
 use Rattle.text.specs.declared.decimals.Field.the-variants.{Number, Bad}
+use Rattle.text.specs.declared.names.Named.{Named}
+use Rattle.text.specs.declared.names.Named.the-variants.{Step, Nothing}
 use Rattle.text.specs.declared.records.Record.{Record}
 use Rattle.text.specs.declared.records.Record.the-variants.{Fields, Refused}
 use Rattle.text.specs.declared.records.Split.{Split}
 use Rattle.text.specs.declared.records.Split.the-variants as split
-use Rattle.text.specs.Marks.{CR, LF, COMMA, QUOTE-MARK, RECORD-MOST, MALFORMED, byteAt, findOf}
+use Rattle.text.specs.Marks.{CR, LF, COMMA, QUOTE-MARK, RECORD-MOST, byteAt, findOf}
 use Rattle.text.specs.Decimals.{fieldRefusal, fieldOf}
-use Rattle.text.specs.Names.{namedStep}
+use Rattle.text.specs.Names.{nameRefusal, namedStep}
 
 -- What a record's two cases stand for: one that is read is no refusal.
 abbrev pub recordRefusal : Record → ℕ
-recordRefusal (Fields p) = 0
+recordRefusal (Fields p) = accepted
 recordRefusal (Refused n) = n
 
 -- "RFC 4180 lines, CRLF"; "lone CR or LF counts as a byte of the record"
@@ -42,33 +46,33 @@ splitOf s from end =
     let c = findOf s (b + 1) end COMMA in
     let d = findOf s (c + 1) end COMMA in
     let e = findOf s (d + 1) end COMMA in
-    pick (not (plainOf s from end)) split.Bad
-    (pick (leb end a) split.Bad
-    (pick (leb end b) split.Bad
-    (pick (leb end c) split.Bad
-    (pick (leb end d) split.Bad
-    (pick (ltb e end) split.Bad
+    unless (plainOf s from end) split.Bad
+    (unless (ltb a end) split.Bad
+    (unless (ltb b end) split.Bad
+    (unless (ltb c end) split.Bad
+    (unless (ltb d end) split.Bad
+    (unless (leb end e) split.Bad
     (split.Fields (record { a = a; b = b; c = c; d = d })))))))
 
--- A record's op with its grant, core, word and value: a bad field's refusal is the record's, whatever the op.
-abbrev pub parsedOf : ℕ → Field → Field → Field → Field → Record
-parsedOf op Bad y z w = Refused (fieldRefusal Bad)
-parsedOf op (Number g) Bad z w = Refused (fieldRefusal Bad)
-parsedOf op (Number g) (Number c) Bad w = Refused (fieldRefusal Bad)
-parsedOf op (Number g) (Number c) (Number a) Bad = Refused (fieldRefusal Bad)
-parsedOf op (Number g) (Number c) (Number a) (Number v) =
-    Fields (record { grant = g; core = c; op = op; word = a; value = v })
+-- The fields of a record read downwards, the number fields first: a bad one's refusal comes before that of an op that is no name.
+abbrev pub parsedOf : Field → Field → Field → Field → Named → Record
+parsedOf Bad c w v op = Refused (fieldRefusal Bad)
+parsedOf (Number g) Bad w v op = Refused (fieldRefusal Bad)
+parsedOf (Number g) (Number c) Bad v op = Refused (fieldRefusal Bad)
+parsedOf (Number g) (Number c) (Number w) Bad op = Refused (fieldRefusal Bad)
+parsedOf (Number g) (Number c) (Number w) (Number v) Nothing = Refused (nameRefusal Nothing)
+parsedOf (Number g) (Number c) (Number w) (Number v) (Step k) = Fields (record { grant = g; step = step k c w v })
 
 -- "The header is `grant,core,op,word,value`": the fields in this order.
 abbrev pub recordIn : List ℕ → ℕ → ℕ → Split → Record
+recordIn s from end split.Bad = Refused malformed
 recordIn s from end (split.Fields cs) =
     parsedOf
-    (namedStep s (cs .b + 1) (cs .c))
     (fieldOf s from (cs .a))
     (fieldOf s (cs .a + 1) (cs .b))
     (fieldOf s (cs .c + 1) (cs .d))
     (fieldOf s (cs .d + 1) end)
-recordIn s from end split.Bad = Refused MALFORMED
+    (namedStep s (cs .b + 1) (cs .c))
 
 -- The record of the bytes from `from` up to `end`.
 unfoldable pub recordOf : List ℕ → ℕ → ℕ → Record

@@ -1,21 +1,22 @@
 // Names: a text compared with a name, and the steps' names.
 
 use crate::marks::byte_at;
-use entry::numbers::ABORT;
-use entry::numbers::COMMIT;
 use entry::numbers::INTERRUPT;
-use entry::numbers::LOAD;
-use entry::numbers::LT;
-use entry::numbers::LTX;
-use entry::numbers::ST;
-use entry::numbers::STORE;
-use entry::numbers::VALIDATE;
 ghost use mathlib.Core.Path.{_≡_};
 ghost use Prim.Native.Nat.{_+_, _<_};
-ghost use Rattle.text.specs.Names.{sameText, unlikeOf, otherStepOf, namedStep};
+ghost use lib.ListN.{length};
+ghost use Rattle.text.specs.Names.{sameText, unlikeOf, stepNames, isName, namedStep};
 
-// Any text that is no step's name.
-pub const NO_STEP: u8 = 255;
+// What a text names: a step by its number, or nothing.
+pub enum Named {
+    Step(u8),
+    Nothing,
+}
+
+// The steps' names in the order of their numbers. Name k is what stands from the k-th start up to the next.
+const NAMES: [u8; 44] = *b"LOADSTORELTLTXSTCOMMITABORTVALIDATEINTERRUPT";
+
+const STARTS: [u8; 10] = [0, 4, 9, 11, 14, 16, 22, 27, 35, 44];
 
 // The bytes from `from` up to `end` are the name.
 pub fn text_is(s: &[u8], from: usize, end: usize, name: &[u8]) -> bool
@@ -52,42 +53,29 @@ fn first_unlike(s: &[u8], from: usize, n: usize, name: &[u8]) -> usize
     at
 }
 
-// The steps that use a word, then the others.
-pub(crate) fn step_of(s: &[u8], from: usize, end: usize) -> u8
-    ensures { λ r. ⌜ r ≡ namedStep (now (s .entry)) from end ⌝ }
+// The text is the name of step k.
+fn is_name(s: &[u8], from: usize, end: usize, k: usize) -> bool
+    requires { ⌜ k < length stepNames ⌝ }
+    ensures { λ r. ⌜ r ≡ isName (now (s .entry)) from end k ⌝ }
 {
-    if text_is(s, from, end, b"LOAD") {
-        return LOAD;
-    }
-    if text_is(s, from, end, b"STORE") {
-        return STORE;
-    }
-    if text_is(s, from, end, b"LT") {
-        return LT;
-    }
-    if text_is(s, from, end, b"LTX") {
-        return LTX;
-    }
-    if text_is(s, from, end, b"ST") {
-        return ST;
-    }
-    other_step_of(s, from, end)
+    let names = NAMES;
+    let a = STARTS[k] as usize;
+    let e = STARTS[k + 1] as usize;
+    text_is(s, from, end, &names[a..e])
 }
 
-fn other_step_of(s: &[u8], from: usize, end: usize) -> u8
-    ensures { λ r. ⌜ r ≡ otherStepOf (now (s .entry)) from end ⌝ }
+// The step that the bytes from `from` up to `end` name.
+pub(crate) fn step_of(s: &[u8], from: usize, end: usize) -> Named
+    ensures { λ r. ⌜ r ≡ namedStep (now (s .entry)) from end ⌝ }
 {
-    if text_is(s, from, end, b"COMMIT") {
-        return COMMIT;
+    let mut k: u8 = 0;
+    loop {
+        if k > INTERRUPT {
+            return Named::Nothing;
+        }
+        if is_name(s, from, end, k as usize) {
+            return Named::Step(k);
+        }
+        k += 1;
     }
-    if text_is(s, from, end, b"ABORT") {
-        return ABORT;
-    }
-    if text_is(s, from, end, b"VALIDATE") {
-        return VALIDATE;
-    }
-    if text_is(s, from, end, b"INTERRUPT") {
-        return INTERRUPT;
-    }
-    NO_STEP
 }

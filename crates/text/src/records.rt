@@ -8,19 +8,19 @@ use crate::marks::LF;
 use crate::marks::QUOTE_MARK;
 use crate::marks::byte_at;
 use crate::marks::find;
+use crate::names::Named;
 use crate::names::step_of;
+use entry::refusals::MALFORMED;
+use entry::refusals::NO_SUCH_STEP;
+use entry::step::Step;
 ghost use mathlib.Core.Path.{_≡_};
 ghost use Prim.Native.Nat.{_<_};
 ghost use lib.ListN.{length};
 ghost use Rattle.text.specs.Records.{endsAt, recordEnd, plainOf, splitOf, recordOf};
 
-// The op is a step's number, or NO_STEP.
 pub struct Parsed {
     pub grant: u32,
-    pub core: u32,
-    pub op: u8,
-    pub word: u32,
-    pub value: u32,
+    pub step: Step,
 }
 
 pub enum Record {
@@ -40,9 +40,6 @@ enum Split {
     Fields(Commas),
     Bad,
 }
-
-// A record that is not five unquoted fields with four numbers among them.
-pub const MALFORMED: u8 = 11;
 
 const RECORD_MOST: usize = 64;
 
@@ -99,13 +96,19 @@ pub fn read_record(s: &[u8], from: usize, end: usize) -> Record
     let Field::Number(value) = read_number(s, d + 1, end) else {
         return Record::Refused(MALFORMED);
     };
-    let op = step_of(s, b + 1, c);
-    Record::Fields(Parsed {
-        grant: grant,
-        core: core,
+    let Named::Step(op) = step_of(s, b + 1, c) else {
+        return Record::Refused(NO_SUCH_STEP);
+    };
+    let processor = core as usize;
+    let step = Step {
         op: op,
+        core: processor,
         word: word,
         value: value,
+    };
+    Record::Fields(Parsed {
+        grant: grant,
+        step: step,
     })
 }
 

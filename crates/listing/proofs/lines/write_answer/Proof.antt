@@ -22,8 +22,8 @@ slice-aggregate-put-bytes-2 c = search needs
 put-bytes-requires-2 : tie.Need-put-bytes-requires-2
 put-bytes-requires-2 c κs = search needs
 
-shown-requires : tie.Need-shown-requires
-shown-requires c κs = search needs
+printed-requires : tie.Need-printed-requires
+printed-requires c κs = search needs
 
 put-number-requires-2 : tie.Need-put-number-requires-2
 put-number-requires-2 c κs = search needs
@@ -71,7 +71,7 @@ returns c =
     let c9 = c8 .before .before .before .before .before in
     let c10 = c9 .before .before .before .before in
     answer-written _ _ _ _ _ _ _ _ _ _ _ _ _ (c10 .pre) (c9 .put-number .ensures) (c8 .put-bytes .ensures) (c7 .put-name .ensures)
-    (c6 .put-bytes2 .ensures) (c5 .shown .ensures) (c4 .put-number2 .ensures) (c3 .put-bytes3 .ensures) (c2 .cycles .ensures)
+    (c6 .put-bytes2 .ensures) (c5 .printed .ensures) (c4 .put-number2 .ensures) (c3 .put-bytes3 .ensures) (c2 .cycles .ensures)
     (c1 .put-number3 .ensures) (c .before .before .put-bytes4 .ensures)
 
 pub write-answer-spec : {M : Type 1} → statement M
@@ -84,7 +84,7 @@ write-answer-spec =
     put-name-requires
     slice-aggregate-put-bytes-2
     put-bytes-requires-2
-    shown-requires
+    printed-requires
     put-number-requires-2
     slice-aggregate-put-bytes-3
     put-bytes-requires-3

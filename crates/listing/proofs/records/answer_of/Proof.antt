@@ -11,19 +11,13 @@ returns : tie.Need-returns
 unfolding answerOf
 returns c = rw (ne-eqb _ _ (c .before .if1 .taken), c .refused .ensures)
 
-cast-p : tie.Need-cast-p
-cast-p c = search needs
-
-cast-word : tie.Need-cast-word
-cast-word c = search needs
-
 take-step-requires : tie.Need-take-step-requires
 take-step-requires c κs = search needs
 
 returns-2 : tie.Need-returns-2
 unfolding answerOf
-returns-2 c = rw (c .before .before .before .before .before .before .before .before .if1 .left) (c .take-step .ensures)
+returns-2 c = rw (c .before .before .before .before .before .before .if1 .left) (c .take-step .ensures)
 
 pub answer-of-spec : {M : Type 1} → statement M
 answer-of-spec =
-    tie.close (tie.spec refused-requires returns cast-p cast-word take-step-requires returns-2)
+    tie.close (tie.spec refused-requires returns take-step-requires returns-2)

@@ -1,4 +1,4 @@
-use borrow.Author.Tests.{lt-ltb, le-ltb}
+use borrow.Author.Tests.{lt-leb, le-leb}
 use Rattle.listing.specs.Place.{past}
 use Rattle.listing.specs.Records.{lookAt}
 use borrow.Author.Needs.{needs}
@@ -21,7 +21,7 @@ returns c =
     rw (
       ← c1 .record-end .ensures,
       ← c .before .before .past .ensures,
-      lt-ltb _ _ (c .before .if1 .taken),
+      lt-leb _ _ (c .before .if1 .taken),
     )
     (c .unread .ensures)
 
@@ -37,8 +37,8 @@ unread-requires-2 c κs = search needs
 enum-known-f : tie.Need-enum-known-f
 enum-known-f c = search needs
 
-fields-refusal-requires : tie.Need-fields-refusal-requires
-fields-refusal-requires c κs = search needs
+grant-refusal-requires : tie.Need-grant-refusal-requires
+grant-refusal-requires c κs = search needs
 
 returns-2 : tie.Need-returns-2
 unfolding lookAt
@@ -50,7 +50,7 @@ returns-2 c =
     rw (
       ← c4 .record-end .ensures,
       ← c3 .past .ensures,
-      le-ltb _ _ (c2 .if1 .left),
+      le-leb _ _ (c2 .if1 .left),
       ← c1 .read-record .ensures,
       c .before .before .n .given .1,
     )
@@ -66,10 +66,10 @@ returns-3 c =
     rw (
       ← c4 .record-end .ensures,
       ← c3 .past .ensures,
-      le-ltb _ _ (c2 .if1 .left),
+      le-leb _ _ (c2 .if1 .left),
       ← c1 .read-record .ensures,
       c .before .before .f .given .1,
-      c .fields-refusal .ensures,
+      c .grant-refusal .ensures,
     )
 
 pub look-at-spec : {M : Type 1} → statement M
@@ -84,6 +84,6 @@ look-at-spec =
     enum-known-n
     unread-requires-2
     enum-known-f
-    fields-refusal-requires
+    grant-refusal-requires
     returns-2
     returns-3)

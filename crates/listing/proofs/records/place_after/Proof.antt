@@ -22,16 +22,21 @@ cycles-requires c κs = search needs
 more-requires-3 : tie.Need-more-requires-3
 more-requires-3 c κs = search needs
 
+refusal-requires : tie.Need-refusal-requires
+refusal-requires c κs = search needs
+
 returns : tie.Need-returns
 unfolding placeAfter
 returns c =
-    let c1 = c .before .before .before in
+    let c0 = c .before .before in
+    let c1 = c0 .before in
     let c2 = c1 .before in
     let c3 = c2 .before in
     let c4 = c3 .before in
     let c5 = c4 .before in
     let c6 = c5 .before in
     rw (
+      ← c0 .refusal .ensures,
       eq-eqb _ _ (c .before .if1 .taken),
       c6 .phase-after .ensures,
       c5 .more .ensures,
@@ -44,19 +49,22 @@ returns c =
 returns-2 : tie.Need-returns-2
 unfolding placeAfter
 returns-2 c =
-    let c1 = c .before .before .before in
+    let c0 = c .before in
+    let c1 = c0 .before in
     let c2 = c1 .before in
     let c3 = c2 .before in
     let c4 = c3 .before in
     let c5 = c4 .before in
+    let c6 = c5 .before in
     rw (
+      ← c0 .refusal .ensures,
       ne-eqb _ _ (c .if1 .left),
-      c5 .phase-after .ensures,
-      c4 .more .ensures,
-      c2 .more2 .ensures,
-      c .before .before .more3 .ensures,
-      c3 .successes .ensures,
-      c1 .cycles .ensures,
+      c6 .phase-after .ensures,
+      c5 .more .ensures,
+      c3 .more2 .ensures,
+      c1 .more3 .ensures,
+      c4 .successes .ensures,
+      c2 .cycles .ensures,
     )
 
 pub place-after-spec : {M : Type 1} → statement M
@@ -69,5 +77,6 @@ place-after-spec =
     more-requires-2
     cycles-requires
     more-requires-3
+    refusal-requires
     returns
     returns-2)

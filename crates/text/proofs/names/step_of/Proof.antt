@@ -1,126 +1,65 @@
-use mathlib.Core.Path.{_∙_, sym}
-use Rattle.text.specs.Names.{namedStep}
+use Prim.Native.Nat.{_-_, _≤_}
+use mathlib.Core.Path.{_≡_, refl, _∙_, sym}
+use borrow.Author.Tests.{lt-ltb, le-ltb}
+use lib.ListN.{length}
+use Rattle.laws.specs.Search.{firstFrom, first-end, first-hit, first-miss}
+use Rattle.text.specs.Names.{stepNames, isName, firstNamed, namedStep}
 use borrow.Author.Needs.{needs}
 use Rattle.text.proofs.names.step_of.Statement.{statement}
 use Rattle.text.proofs.names.step_of.Tie as tie
 
-slice-aggregate-text-is : tie.Need-slice-aggregate-text-is
-slice-aggregate-text-is c = search needs
+abbrev Inv-loop : tie.InvT-loop
+Inv-loop s from end k₀ k =
+    (k ≤ length stepNames) × (firstFrom (isName s from end) k (length stepNames - k) ≡ firstNamed s from end)
 
-text-is-requires : tie.Need-text-is-requires
-text-is-requires c κs = search needs
+abbrev μ-loop : tie.MeasureT-loop
+μ-loop s from end k₀ k = length stepNames - k
 
-returns : tie.Need-returns
+loop-holds : tie.Need-loop-holds Inv-loop μ-loop
+loop-holds c = (search needs, refl)
+
+returns : tie.Need-returns Inv-loop μ-loop
 unfolding namedStep
-returns c = rw (sym (c .before .text-is .ensures) ∙ c .if1 .taken)
+returns c =
+    let k = c .before .loop .k in
+    rw (sym (c .before .loop .inv .1) ∙ first-end _ k (length stepNames) (search needs), le-ltb k (length stepNames) (search needs))
 
-slice-aggregate-text-is-2 : tie.Need-slice-aggregate-text-is-2
-slice-aggregate-text-is-2 c = search needs
+cast-is-name : tie.Need-cast-is-name Inv-loop μ-loop
+cast-is-name c = search needs
 
-text-is-requires-2 : tie.Need-text-is-requires-2
-text-is-requires-2 c κs = search needs
+is-name-requires : tie.Need-is-name-requires Inv-loop μ-loop
+is-name-requires c κs = search needs
 
-returns-2 : tie.Need-returns-2
+returns-2 : tie.Need-returns-2 Inv-loop μ-loop
 unfolding namedStep
 returns-2 c =
-    rw (
-      sym (c .before .before .before .before .text-is .ensures) ∙ c .before .before .before .if1 .left,
-      sym (c .before .text-is2 .ensures) ∙ c .if2 .taken,
-    )
+    let l = c .before .before .before .loop in
+    let hit = first-hit _ (l .k) (length stepNames) (search needs) (sym (c .before .is-name .ensures) ∙ c .if2 .taken) in
+    rw (sym (l .inv .1) ∙ hit, lt-ltb (l .k) (length stepNames) (search needs))
 
-slice-aggregate-text-is-3 : tie.Need-slice-aggregate-text-is-3
-slice-aggregate-text-is-3 c = search needs
+add-k : tie.Need-add-k Inv-loop μ-loop
+add-k c = search needs
 
-text-is-requires-3 : tie.Need-text-is-requires-3
-text-is-requires-3 c κs = search needs
+loop-less : tie.Need-loop-less Inv-loop μ-loop
+loop-less c = search needs
 
-returns-3 : tie.Need-returns-3
-unfolding namedStep
-returns-3 c =
-    let c1 = c .before .before .before in
-    let c2 = c1 .before .before .before in
-    rw (
-      sym (c2 .before .text-is .ensures) ∙ c2 .if1 .left,
-      sym (c1 .before .text-is2 .ensures) ∙ c1 .if2 .left,
-      sym (c .before .text-is3 .ensures) ∙ c .if3 .taken,
-    )
-
-slice-aggregate-text-is-4 : tie.Need-slice-aggregate-text-is-4
-slice-aggregate-text-is-4 c = search needs
-
-text-is-requires-4 : tie.Need-text-is-requires-4
-text-is-requires-4 c κs = search needs
-
-returns-4 : tie.Need-returns-4
-unfolding namedStep
-returns-4 c =
-    let c1 = c .before .before .before in
-    let c2 = c1 .before .before .before in
-    let c3 = c2 .before .before .before in
-    rw (
-      sym (c3 .before .text-is .ensures) ∙ c3 .if1 .left,
-      sym (c2 .before .text-is2 .ensures) ∙ c2 .if2 .left,
-      sym (c1 .before .text-is3 .ensures) ∙ c1 .if3 .left,
-      sym (c .before .text-is4 .ensures) ∙ c .if4 .taken,
-    )
-
-slice-aggregate-text-is-5 : tie.Need-slice-aggregate-text-is-5
-slice-aggregate-text-is-5 c = search needs
-
-text-is-requires-5 : tie.Need-text-is-requires-5
-text-is-requires-5 c κs = search needs
-
-returns-5 : tie.Need-returns-5
-unfolding namedStep
-returns-5 c =
-    let c1 = c .before .before .before in
-    let c2 = c1 .before .before .before in
-    let c3 = c2 .before .before .before in
-    let c4 = c3 .before .before .before in
-    rw (
-      sym (c4 .before .text-is .ensures) ∙ c4 .if1 .left,
-      sym (c3 .before .text-is2 .ensures) ∙ c3 .if2 .left,
-      sym (c2 .before .text-is3 .ensures) ∙ c2 .if3 .left,
-      sym (c1 .before .text-is4 .ensures) ∙ c1 .if4 .left,
-      sym (c .before .text-is5 .ensures) ∙ c .if5 .taken,
-    )
-
-other-step-of-requires : tie.Need-other-step-of-requires
-other-step-of-requires c κs = search needs
-
-returns-6 : tie.Need-returns-6
-unfolding namedStep
-returns-6 c =
-    let c1 = c .before .before .before .before in
-    let c2 = c1 .before .before .before in
-    let c3 = c2 .before .before .before in
-    let c4 = c3 .before .before .before in
-    rw (
-      sym (c4 .before .text-is .ensures) ∙ c4 .if1 .left,
-      sym (c3 .before .text-is2 .ensures) ∙ c3 .if2 .left,
-      sym (c2 .before .text-is3 .ensures) ∙ c2 .if3 .left,
-      sym (c1 .before .text-is4 .ensures) ∙ c1 .if4 .left,
-      sym (c .before .before .text-is5 .ensures) ∙ c .before .if5 .left,
-    ) (c .other-step-of .ensures)
+loop-again : tie.Need-loop-again Inv-loop μ-loop
+loop-again c =
+    let l = c .before .before .before .loop in
+    let miss = first-miss _ (l .k) (length stepNames) (search needs) (sym (c .before .is-name .ensures) ∙ c .if2 .left) in
+    (search needs, sym miss ∙ l .inv .1)
 
 pub step-of-spec : {M : Type 1} → statement M
 step-of-spec =
     tie.close
     (tie.spec
-    slice-aggregate-text-is
-    text-is-requires
+    Inv-loop
+    μ-loop
+    loop-holds
     returns
-    slice-aggregate-text-is-2
-    text-is-requires-2
+    cast-is-name
+    is-name-requires
     returns-2
-    slice-aggregate-text-is-3
-    text-is-requires-3
-    returns-3
-    slice-aggregate-text-is-4
-    text-is-requires-4
-    returns-4
-    slice-aggregate-text-is-5
-    text-is-requires-5
-    returns-5
-    other-step-of-requires
-    returns-6)
+    add-k
+    loop-less
+    loop-again)

@@ -8,7 +8,7 @@ use Rattle.text.specs.declared.records.Split.the-variants as split
 use Rattle.text.proofs.records.Split as split-kind
 use native.Mathlib.Omega.{arith}
 use Rattle.text.specs.Records.{recordOf}
-use Rattle.text.proofs.Cases.{is-bad}
+use Rattle.text.proofs.Cases.{is-bad, no-name}
 use Rattle.text.proofs.Inside.{inside}
 use borrow.Author.Needs.{needs}
 use Rattle.text.proofs.records.read_record.Statement.{statement}
@@ -155,6 +155,12 @@ add-step-of c =
 step-of-requires : tie.Need-step-of-requires
 step-of-requires c κs = search needs
 
+enum-known-op : tie.Need-enum-known-op
+enum-known-op c = search needs
+
+enum-told-6 : tie.Need-enum-told-6
+enum-told-6 c = search needs
+
 returns-6 : tie.Need-returns-6
 unfolding recordOf
 returns-6 c =
@@ -164,17 +170,45 @@ returns-6 c =
     let c4 = c3 .before .before .before .before in
     let c5 = c4 .before .before .before .before in
     rw (
-      ← c5 .split-record .ensures,
-      c4 .before .before .cs .given .1,
-      ← c4 .read-number .ensures,
-      c3 .before .before .grant .given .1,
-      ← c3 .read-number2 .ensures,
-      c2 .before .before .core .given .1,
-      ← c2 .read-number3 .ensures,
-      c1 .before .before .word .given .1,
-      ← c1 .read-number4 .ensures,
-      c .before .before .value .given .1,
-      ← c .step-of .ensures,
+      ← c5 .before .before .split-record .ensures,
+      c5 .cs .given .1,
+      ← c4 .before .before .read-number .ensures,
+      c4 .grant .given .1,
+      ← c3 .before .before .read-number2 .ensures,
+      c3 .core .given .1,
+      ← c2 .before .before .read-number3 .ensures,
+      c2 .word .given .1,
+      ← c1 .before .before .read-number4 .ensures,
+      c1 .value .given .1,
+      ← c .before .before .step-of .ensures,
+      no-name (c .before .before .step-of .result) (c .before .match6 .keys2),
+    )
+
+cast-processor : tie.Need-cast-processor
+cast-processor c = search needs
+
+returns-7 : tie.Need-returns-7
+unfolding recordOf
+returns-7 c =
+    let c0 = c .before in
+    let c1 = c0 .before .before .before .before in
+    let c2 = c1 .before .before .before .before in
+    let c3 = c2 .before .before .before .before in
+    let c4 = c3 .before .before .before .before in
+    let c5 = c4 .before .before .before .before in
+    rw (
+      ← c5 .before .before .split-record .ensures,
+      c5 .cs .given .1,
+      ← c4 .before .before .read-number .ensures,
+      c4 .grant .given .1,
+      ← c3 .before .before .read-number2 .ensures,
+      c3 .core .given .1,
+      ← c2 .before .before .read-number3 .ensures,
+      c2 .word .given .1,
+      ← c1 .before .before .read-number4 .ensures,
+      c1 .value .given .1,
+      ← c0 .before .before .step-of .ensures,
+      c0 .op .given .1,
     )
 
 pub read-record-spec : {M : Type 1} → statement M
@@ -206,4 +240,8 @@ read-record-spec =
     returns-5
     add-step-of
     step-of-requires
-    returns-6)
+    enum-known-op
+    enum-told-6
+    returns-6
+    cast-processor
+    returns-7)

@@ -1,4 +1,5 @@
-use borrow.Author.Tests.{lt-ltb, le-ltb, le-leb, lt-leb}
+use mathlib.Core.Path.{_∙_, sym}
+use borrow.Author.Tests.{not-true, not-false, lt-ltb, le-ltb, le-leb, lt-leb}
 use Rattle.text.specs.Records.{splitOf}
 use borrow.Author.Needs.{needs}
 use Rattle.text.proofs.records.split_record.Statement.{statement}
@@ -9,7 +10,7 @@ is-plain-requires c κs = search needs
 
 returns : tie.Need-returns
 unfolding splitOf
-returns c = rw (← c .before .is-plain .ensures, c .if1 .taken)
+returns c = rw (sym (c .before .is-plain .ensures) ∙ not-true _ (c .if1 .taken))
 
 find-requires : tie.Need-find-requires
 find-requires c κs = search needs
@@ -17,11 +18,11 @@ find-requires c κs = search needs
 returns-2 : tie.Need-returns-2
 unfolding splitOf
 returns-2 c =
+    let c1 = c .before .before in
     rw (
-      ← c .before .before .before .is-plain .ensures,
-      c .before .before .if1 .left,
+      sym (c1 .before .is-plain .ensures) ∙ not-false _ (c1 .if1 .left),
       ← c .before .find .ensures,
-      le-leb _ _ (c .if2 .taken),
+      le-ltb _ _ (c .if2 .taken),
     )
 
 add-find : tie.Need-add-find
@@ -33,13 +34,14 @@ find-requires-2 c κs = search needs
 returns-3 : tie.Need-returns-3
 unfolding splitOf
 returns-3 c =
+    let c1 = c .before .before in
+    let c2 = c1 .before .before in
     rw (
-      ← c .before .before .before .before .before .is-plain .ensures,
-      c .before .before .before .before .if1 .left,
-      ← c .before .before .before .find .ensures,
-      lt-leb _ _ (c .before .before .if2 .left),
+      sym (c2 .before .is-plain .ensures) ∙ not-false _ (c2 .if1 .left),
+      ← c1 .before .find .ensures,
+      lt-ltb _ _ (c1 .if2 .left),
       ← c .before .find2 .ensures,
-      le-leb _ _ (c .if3 .taken),
+      le-ltb _ _ (c .if3 .taken),
     )
 
 add-find-2 : tie.Need-add-find-2
@@ -51,15 +53,17 @@ find-requires-3 c κs = search needs
 returns-4 : tie.Need-returns-4
 unfolding splitOf
 returns-4 c =
+    let c1 = c .before .before in
+    let c2 = c1 .before .before in
+    let c3 = c2 .before .before in
     rw (
-      ← c .before .before .before .before .before .before .before .is-plain .ensures,
-      c .before .before .before .before .before .before .if1 .left,
-      ← c .before .before .before .before .before .find .ensures,
-      lt-leb _ _ (c .before .before .before .before .if2 .left),
-      ← c .before .before .before .find2 .ensures,
-      lt-leb _ _ (c .before .before .if3 .left),
+      sym (c3 .before .is-plain .ensures) ∙ not-false _ (c3 .if1 .left),
+      ← c2 .before .find .ensures,
+      lt-ltb _ _ (c2 .if2 .left),
+      ← c1 .before .find2 .ensures,
+      lt-ltb _ _ (c1 .if3 .left),
       ← c .before .find3 .ensures,
-      le-leb _ _ (c .if4 .taken),
+      le-ltb _ _ (c .if4 .taken),
     )
 
 add-find-3 : tie.Need-add-find-3
@@ -71,17 +75,20 @@ find-requires-4 c κs = search needs
 returns-5 : tie.Need-returns-5
 unfolding splitOf
 returns-5 c =
+    let c1 = c .before .before in
+    let c2 = c1 .before .before in
+    let c3 = c2 .before .before in
+    let c4 = c3 .before .before in
     rw (
-      ← c .before .before .before .before .before .before .before .before .before .is-plain .ensures,
-      c .before .before .before .before .before .before .before .before .if1 .left,
-      ← c .before .before .before .before .before .before .before .find .ensures,
-      lt-leb _ _ (c .before .before .before .before .before .before .if2 .left),
-      ← c .before .before .before .before .before .find2 .ensures,
-      lt-leb _ _ (c .before .before .before .before .if3 .left),
-      ← c .before .before .before .find3 .ensures,
-      lt-leb _ _ (c .before .before .if4 .left),
+      sym (c4 .before .is-plain .ensures) ∙ not-false _ (c4 .if1 .left),
+      ← c3 .before .find .ensures,
+      lt-ltb _ _ (c3 .if2 .left),
+      ← c2 .before .find2 .ensures,
+      lt-ltb _ _ (c2 .if3 .left),
+      ← c1 .before .find3 .ensures,
+      lt-ltb _ _ (c1 .if4 .left),
       ← c .before .find4 .ensures,
-      le-leb _ _ (c .if5 .taken),
+      le-ltb _ _ (c .if5 .taken),
     )
 
 add-find-4 : tie.Need-add-find-4
@@ -93,37 +100,45 @@ find-requires-5 c κs = search needs
 returns-6 : tie.Need-returns-6
 unfolding splitOf
 returns-6 c =
+    let c1 = c .before .before in
+    let c2 = c1 .before .before in
+    let c3 = c2 .before .before in
+    let c4 = c3 .before .before in
+    let c5 = c4 .before .before in
     rw (
-      ← c .before .before .before .before .before .before .before .before .before .before .before .is-plain .ensures,
-      c .before .before .before .before .before .before .before .before .before .before .if1 .left,
-      ← c .before .before .before .before .before .before .before .before .before .find .ensures,
-      lt-leb _ _ (c .before .before .before .before .before .before .before .before .if2 .left),
-      ← c .before .before .before .before .before .before .before .find2 .ensures,
-      lt-leb _ _ (c .before .before .before .before .before .before .if3 .left),
-      ← c .before .before .before .before .before .find3 .ensures,
-      lt-leb _ _ (c .before .before .before .before .if4 .left),
-      ← c .before .before .before .find4 .ensures,
-      lt-leb _ _ (c .before .before .if5 .left),
+      sym (c5 .before .is-plain .ensures) ∙ not-false _ (c5 .if1 .left),
+      ← c4 .before .find .ensures,
+      lt-ltb _ _ (c4 .if2 .left),
+      ← c3 .before .find2 .ensures,
+      lt-ltb _ _ (c3 .if3 .left),
+      ← c2 .before .find3 .ensures,
+      lt-ltb _ _ (c2 .if4 .left),
+      ← c1 .before .find4 .ensures,
+      lt-ltb _ _ (c1 .if5 .left),
       ← c .before .find5 .ensures,
-      lt-ltb _ _ (c .if6 .taken),
+      lt-leb _ _ (c .if6 .taken),
     )
 
 returns-7 : tie.Need-returns-7
 unfolding splitOf
 returns-7 c =
+    let c1 = c .before .before in
+    let c2 = c1 .before .before in
+    let c3 = c2 .before .before in
+    let c4 = c3 .before .before in
+    let c5 = c4 .before .before in
     rw (
-      ← c .before .before .before .before .before .before .before .before .before .before .before .is-plain .ensures,
-      c .before .before .before .before .before .before .before .before .before .before .if1 .left,
-      ← c .before .before .before .before .before .before .before .before .before .find .ensures,
-      lt-leb _ _ (c .before .before .before .before .before .before .before .before .if2 .left),
-      ← c .before .before .before .before .before .before .before .find2 .ensures,
-      lt-leb _ _ (c .before .before .before .before .before .before .if3 .left),
-      ← c .before .before .before .before .before .find3 .ensures,
-      lt-leb _ _ (c .before .before .before .before .if4 .left),
-      ← c .before .before .before .find4 .ensures,
-      lt-leb _ _ (c .before .before .if5 .left),
+      sym (c5 .before .is-plain .ensures) ∙ not-false _ (c5 .if1 .left),
+      ← c4 .before .find .ensures,
+      lt-ltb _ _ (c4 .if2 .left),
+      ← c3 .before .find2 .ensures,
+      lt-ltb _ _ (c3 .if3 .left),
+      ← c2 .before .find3 .ensures,
+      lt-ltb _ _ (c2 .if4 .left),
+      ← c1 .before .find4 .ensures,
+      lt-ltb _ _ (c1 .if5 .left),
       ← c .before .find5 .ensures,
-      le-ltb _ _ (c .if6 .left),
+      le-leb _ _ (c .if6 .left),
     )
 
 pub split-record-spec : {M : Type 1} → statement M
