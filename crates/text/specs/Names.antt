@@ -44,7 +44,7 @@ stepNames =
 unfoldable pub isName : List ℕ → ℕ → ℕ → ℕ → Bool
 isName s from end k = sameText s from end (getD stepNames k [])
 
--- "`op` is a name above in capitals": the first step whose name the text is, and no step has another's name.
+-- "`op` is a name above in capitals": the first step whose name the text is, else the number of names.
 abbrev pub firstNamed : List ℕ → ℕ → ℕ → ℕ
 firstNamed s from end = firstFrom (isName s from end) 0 (length stepNames)
 
