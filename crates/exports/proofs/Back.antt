@@ -10,9 +10,10 @@ use lib.ListN.{length, getD, set, length-set, length-replicate, getD-replicate}
 use lib.Seq.{sets, length-sets, ext-getD, getD-set-same, getD-set-other}
 use Rattle.laws.specs.Choice.{both-true}
 use Rattle.rules.specs.declared.Machine.{Machine}
-use Rattle.rules.specs.State.{Caches, cachesOf, trueFlag}
+use Rattle.rules.specs.State.{cachesOf, trueFlag}
 use Rattle.rules.specs.Sound.{Lengths}
-use Rattle.exports.specs.Array.{flagsFrom, flagsEnd, memoryFrom, linesFrom, entriesFrom, entriesEnd, stateEnd, part, machineIn, blank, arrayOf, noneAbove, mostValue, heldOk}
+use Rattle.exports.specs.Array.{flagsFrom, flagsEnd, memoryFrom, linesFrom, entriesFrom, entriesEnd, stateEnd}
+use Rattle.exports.specs.Array.{part, machineIn, blank, arrayOf, noneAbove, mostValue, heldOk}
 use Rattle.exports.proofs.Copied.{part-length, part-at}
 use Rattle.exports.proofs.Tested.{none-above-at, none-above-of, held-parts}
 

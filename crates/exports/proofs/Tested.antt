@@ -1,10 +1,9 @@
 -- The test of a range of places, as its loop makes it, and as a fact.
-use mathlib.Core.Path.{_≡_, refl, sym, _∙_, ap}
+use mathlib.Core.Path.{_≡_, refl, sym, _∙_}
 use mathlib.Core.Bool.{Bool, true, false}
 use mathlib.Core.List.{List}
 use Prim.Native.Nat.{ℕ, _+_, _-_, _<_, _≤_}
 use native.Mathlib.Omega.{arith}
-use lib.Dec.{eqb}
 use lib.ListN.{getD}
 use borrow.Author.Tests.{lt-ltb, le-ltb, ltb-false, eq-eqb, ne-eqb, eqb-true}
 use Rattle.laws.specs.Choice.{both, both-left, both-right}
@@ -43,7 +42,13 @@ module _ (s : List ℕ) (most from to : ℕ) where
       eq-eqb found to
       (omega (arith, none-of (above most s) from (to - from) (λ k a b. le-ltb most (getD s k 0) (f k a (omega arith)))))
 
--- five tests as one
+-- five tests as one: put together from either side, and what they say of each
+pub five-tests : (a b c d e : Bool) → both (both (both (both a b) c) d) e ≡ both a (both b (both c (both d e)))
+five-tests true true true d e = refl
+five-tests true true false d e = refl
+five-tests true false c d e = refl
+five-tests false b c d e = refl
+
 each-of-five : (a b c d e : Bool) → both a (both b (both c (both d e))) ≡ true →
     (a ≡ true) × (b ≡ true) × (c ≡ true) × (d ≡ true) × (e ≡ true)
 each-of-five a b c d e h =

@@ -1,9 +1,9 @@
--- What each function for C leaves: the number that it answers, and what then stands in all that it was lent. "A refusal gives its number ..;
--- state and columns stay." An array that holds no machine is no sound state: 9.
+-- What each function for C leaves: the number that it answers, and what then stands in all that it was lent. An array that holds no machine is
+-- no sound state: 9.
 use mathlib.Core.List.{List, [], _∷_}
 use Prim.Native.Nat.{ℕ}
 use lib.Dec.{eqb}
-use Rattle.laws.specs.Choice.{pick, both}
+use Rattle.laws.specs.Choice.{pick}
 use Rattle.entry.specs.declared.answer.Answered.{Answered}
 use Rattle.entry.specs.declared.step.Step.{Step}
 use Rattle.entry.specs.Answer.{answerNumber, answerValue, refusalNumber}
@@ -24,13 +24,15 @@ pub record Handed (A : Type 0) : Type 0 where
 abbrev pub handed : {A : Type 0} → ℕ → A → Handed A
 handed n x = record { refusal = n; lent = x }
 
--- the number n; what was lent becomes new, and stays old where n is a refusal
+-- "A refusal gives its number ..; state and columns stay.": the number n, and what was lent becomes new only where n refuses nothing
 abbrev pub handedBy : {A : Type 0} → ℕ → A → A → Handed A
 handedBy n old new = handed n (unless (eqb n accepted) old new)
 
+-- "1 to 5 are given only when a machine is made": the array becomes the fresh machine's, whatever it held
 unfoldable pub makeIn : Dims → List ℕ → List ℕ → Handed (List ℕ)
 makeIn d initial s = let m = makeOf d initial in handedBy (m .refusal) s (arrayOf (m .machine))
 
+-- "the state is not sound", or 0
 unfoldable pub soundIn : List ℕ → ℕ
 soundIn s =
     let m = machineIn s in
@@ -58,6 +60,7 @@ toldBy a =
     c .busy ∷
     []
 
+-- one step from the machine that the array holds: the array becomes the next machine's
 unfoldable pub stepIn : List ℕ → Step → List ℕ → Handed StepLent
 stepIn s x t =
     let r = stepOf (machineIn s) x in
@@ -74,7 +77,7 @@ pub record RunLent : Type 0 where
 abbrev pub runLent : ℕ → List ℕ → Columns → RunLent
 runLent n s c = record { taken = n; state = s; columns = c }
 
--- a run that took no step leaves the array as it was
+-- "earlier answers stand, as does the state they reached", refused or not; a run that took no step leaves the array as it was
 abbrev pub ranIn : List ℕ → Ran → Columns → Handed RunLent
 ranIn s r c = handed (r .refusal) (runLent (r .taken) (pick (eqb (r .taken) 0) s (arrayOf (r .machine))) c)
 
@@ -83,6 +86,7 @@ runIn s x c =
     let r = runOf (machineIn s) x c in
     unless (heldOk s) (handed notSound (runLent 0 s c)) (ranIn s (r .ran) (r .columns))
 
+-- every word's "settled value"
 unfoldable pub settleIn : List ℕ → List ℕ → Handed (List ℕ)
 settleIn s v =
     let r = settleOf (machineIn s) in

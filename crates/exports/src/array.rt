@@ -34,19 +34,11 @@ fn none_above(state: &State, most: u64, from: usize, to: usize) -> bool
 pub(crate) fn held_ok(state: &State) -> bool
     ensures { λ r. ⌜ r ≡ heldOk (before state) ⌝ }
 {
-    if !none_above(state, 0, 4, FLAGS_FROM) {
-        return false;
-    }
-    if !none_above(state, 1, FLAGS_FROM, FLAGS_END) {
-        return false;
-    }
-    if !none_above(state, 0, FLAGS_END, MEMORY_FROM) {
-        return false;
-    }
-    if !none_above(state, 4294967295, MEMORY_FROM, LINES_FROM) {
-        return false;
-    }
-    none_above(state, 0, ENTRIES_END, STATE_END)
+    none_above(state, 0, 4, FLAGS_FROM)
+        & none_above(state, 1, FLAGS_FROM, FLAGS_END)
+        & none_above(state, 0, FLAGS_END, MEMORY_FROM)
+        & none_above(state, 4294967295, MEMORY_FROM, LINES_FROM)
+        & none_above(state, 0, ENTRIES_END, STATE_END)
 }
 
 pub(crate) fn machine_of(state: &State) -> Machine
