@@ -15,8 +15,9 @@ static void give_to_all(struct job *job, struct dice *dice)
     struct reply reply;
     job->kind = JOB_SOUND;
     compare(job, &reply);
-    expect(reply.sound == change->sound, "the state is%s sound", reply.sound ? "" : " not");
-    for (int kind = JOB_SETTLED; kind <= JOB_RUN; kind++) {
+    bool sound = reply.refusal == NOT_REFUSED;
+    expect(sound == change->sound, "the state is%s sound", sound ? "" : " not");
+    for (int kind = JOB_SETTLE; kind <= JOB_RUN; kind++) {
         draw_use(job, dice, kind);
         compare(job, &reply);
     }
