@@ -1,6 +1,8 @@
 # shellcheck shell=sh disable=SC2154
 # The static library of the functions for C, and a compiler for what links it. Sourced after tests/suite.sh by the scripts that do. The
 # library is x86-64 code: on another machine what links it is compiled for that, and run by tests/built.
+# shellcheck source=tests/new.sh
+. "$top/tests/new.sh" || exit 1
 library=$top/target/staticlib/libexports.a
 
 # Installs a missing program where root asks.
@@ -19,10 +21,8 @@ find_compiler() {
     find_program "$compiler" gcc-x86-64-linux-gnu
 }
 
-# Whether nothing that it is built from has changed since. To build it takes a minute even then.
-library_is_new() {
-    [ -f "$library" ] && [ -z "$(cd "$top" && find crates crates.txt toolchain.txt -newer "$library")" ]
-}
+# To build it takes a minute even where nothing that it is built from has changed.
+library_is_new() { is_new "$library"; }
 
 # An old library is never linked.
 build_library() {

@@ -11,7 +11,7 @@ use Rattle.rules.specs.declared.Dims.{Dims}
 use Rattle.rules.specs.declared.Made.{Made}
 use Rattle.entry.specs.Refusals.{accepted}
 use Rattle.rules.specs.Making.{dimsRefusal, makeRefusal, makeOf}
-use Rattle.machine.proofs.Words.{dims-fit}
+use Rattle.machine.proofs.Fits.{dims-fit}
 use Rattle.listing.specs.declared.places.Place.{Place}
 use Rattle.listing.specs.Place.{beginAt}
 use Rattle.listing.specs.Replay.{replaying, beginOf}

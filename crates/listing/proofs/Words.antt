@@ -12,7 +12,7 @@ use Rattle.rules.specs.State.{Caches}
 use Rattle.entry.specs.Refusals.{accepted, noSuchStep}
 use Rattle.rules.specs.Making.{dimsRefusal}
 use Rattle.rules.specs.Step.{stepRefusal, takeStep}
-use Rattle.machine.proofs.Words.{dims-fit, low-word}
+use Rattle.machine.proofs.Fits.{dims-fit, low-word}
 use Rattle.text.specs.declared.records.Record.{Record}
 use Rattle.text.specs.declared.records.Record.the-variants.{Fields, Refused}
 use Rattle.text.specs.declared.records.Parsed.{Parsed}

@@ -1,3 +1,3 @@
 pub mod Padding
-pub mod Words
+pub mod Fits
 pub mod Unique

@@ -11,6 +11,7 @@ use Rattle.machine.proofs.make.Reads as make-reads
 use Rattle.machine.proofs.sound as sound
 use Rattle.machine.proofs.sound.Kinds as sound-kinds
 use Rattle.machine.proofs.sound.Reads as sound-reads
+use Rattle.machine.proofs.settle.Reads as settle-reads
 use Rattle.machine.proofs.settled as settled
 use Rattle.machine.proofs.settled.Kinds as settled-kinds
 use Rattle.machine.proofs.settled.Reads as settled-reads
@@ -37,3 +38,9 @@ pub step-unique : (κs : Lfts 0) (a : ArgsD step.signature κs) (r r' : ResD ste
     (s s' : AtExit (endedOf 0 step-kinds.ps step-kinds.r) κs) → step-reads.Post κs a r s → step-reads.Post κs a r' s' →
     r ≡ r'
 step-unique κs a r r' s s' p q = p ∙ sym q
+
+abbrev OneAnswer : {K : Type 0} {A R S : K → Type 0} {X : Type 0} → ((k : K) → A k → R k → S k → Type 0) → ((k : K) → R k → S k → X) → Type 0
+OneAnswer {K} {A} {R} {S} {X} Post view = (k : K) (a : A k) (r r' : R k) (s s' : S k) → Post k a r s → Post k a r' s' → view k r s ≡ view k r' s'
+
+pub settle-unique : OneAnswer settle-reads.Post (λ k r s. r)
+settle-unique κs a r r' s s' p q = p ∙ sym q

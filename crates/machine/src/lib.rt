@@ -5,15 +5,20 @@ mod settling;
 
 use entry::answer::Answer;
 use entry::answer::Answered;
+use entry::refusals::ACCEPTED;
+use entry::refusals::NO_SUCH_WORD;
+use entry::refusals::NOT_SOUND;
+use entry::step::Step;
 use rules::Dims;
 use rules::Machine;
 use rules::Made;
+use rules::Settle;
 use rules::Stepped;
 ghost use mathlib.Core.Path.{_≡_};
 ghost use Rattle.rules.specs.State.{cachesOf};
 ghost use Rattle.rules.specs.Making.{dims, makeOf};
 ghost use Rattle.rules.specs.SoundTest.{soundOf};
-ghost use Rattle.rules.specs.Step.{stepOf, settledOf};
+ghost use Rattle.rules.specs.Step.{stepOf, settledOf, settleOf};
 ghost use Rattle.rules.specs.Lent.{before};
 
 // A refused making hands back the smallest machine.
@@ -27,7 +32,7 @@ pub fn make(processors: usize, words: usize, lines: usize, entries: usize, memor
         entries: entries,
     };
     let k = making::make_refusal(d, memory);
-    if k != 0 {
+    if k != ACCEPTED {
         let m = making::smallest_machine();
         return Made {
             refusal: k,
@@ -36,7 +41,7 @@ pub fn make(processors: usize, words: usize, lines: usize, entries: usize, memor
     }
     let m = making::fresh_machine(d, memory);
     Made {
-        refusal: 0,
+        refusal: ACCEPTED,
         machine: m,
     }
 }
@@ -55,12 +60,12 @@ pub fn settled(m: Machine, word: u32) -> Answer
     ensures { λ r. ⌜ r ≡ settledOf m word ⌝ }
 {
     if !sound(m) {
-        return Answer::Refused(9);
+        return Answer::Refused(NOT_SOUND);
     }
     let d = m.dims;
     let a = word as usize;
     if a >= d.words {
-        return Answer::Refused(8);
+        return Answer::Refused(NO_SUCH_WORD);
     }
     let memory = m.memory;
     let lines = m.lines;
@@ -71,43 +76,44 @@ pub fn settled(m: Machine, word: u32) -> Answer
     Answer::Value(v)
 }
 
-// A step that is not refused uses a word below 256, or none.
-pub fn step(m: Machine, op: u8, core: u8, word: u32, value: u32) -> Stepped
-    ensures { λ r. ⌜ r ≡ stepOf m op core word value ⌝ }
+// Every word's settled value in one call.
+pub fn settle(m: Machine) -> Settle
+    ensures { λ r. ⌜ r ≡ settleOf m ⌝ }
 {
     if !sound(m) {
-        let told = Answered::refused(9);
+        return Settle {
+            refusal: NOT_SOUND,
+            values: [0u32; 256],
+        };
+    }
+    let memory = m.memory;
+    let lines = m.lines;
+    let entries = m.entries;
+    let flags = m.flags;
+    let values = settling::settled_all(&memory, &lines, &entries, &flags, m.dims);
+    Settle {
+        refusal: ACCEPTED,
+        values: values,
+    }
+}
+
+// A refused step hands the machine back as it was.
+pub fn step(m: Machine, step: Step) -> Stepped
+    ensures { λ r. ⌜ r ≡ stepOf m step ⌝ }
+{
+    if !sound(m) {
+        let told = Answered::refused(NOT_SOUND);
         return Stepped {
             told: told,
             machine: m,
         };
     }
     let d = m.dims;
-    let p = core as usize;
-    let k = steps::step_refusal(d, op, p, word);
-    if k != 0 {
-        let told = Answered::refused(k);
-        return Stepped {
-            told: told,
-            machine: m,
-        };
-    }
     let mut memory = m.memory;
     let mut lines = m.lines;
     let mut entries = m.entries;
     let mut flags = m.flags;
-    let w = (word % 256) as u8;
-    let answered = steps::take_step(
-        &mut memory,
-        &mut lines,
-        &mut entries,
-        &mut flags,
-        d,
-        op,
-        p,
-        w,
-        value,
-    );
+    let answered = steps::take_step(&mut memory, &mut lines, &mut entries, &mut flags, d, step);
     let stepped = Machine {
         dims: d,
         memory: memory,

@@ -1,5 +1,7 @@
 // Making a machine: refusals 1 to 5, and the fresh state.
 
+use entry::refusals::ACCEPTED;
+use entry::refusals::BAD_MEMORY;
 use rules::Dims;
 use rules::Machine;
 ghost use mathlib.Core.Path.{_≡_};
@@ -13,14 +15,14 @@ pub(crate) fn make_refusal(d: Dims, memory: &[u32]) -> u8
     ensures { λ r. ⌜ r ≡ makeRefusal d (before memory) ⌝ }
 {
     let k = sound::dims::dims_refusal(d);
-    if k != 0 {
+    if k != ACCEPTED {
         return k;
     }
     let n = memory.len();
-    if n == d.words {
-        return 0;
+    if n != d.words {
+        return BAD_MEMORY;
     }
-    5
+    ACCEPTED
 }
 
 fn fresh_memory(memory: &[u32]) -> [u32; 256]

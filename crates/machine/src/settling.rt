@@ -10,6 +10,8 @@ use rules::Dims;
 use rules::Flags;
 use rules::Memory;
 ghost use mathlib.Core.Path.{_≡_};
+ghost use Prim.Native.Nat.{_≤_};
+ghost use Rattle.rules.specs.Step.{settledAll};
 ghost use Rattle.rules.specs.Settled.{isDirty, isSettling, settlingEntry, settles, settler, settledIn};
 ghost use Rattle.rules.specs.Lent.{before, lent};
 
@@ -107,4 +109,24 @@ pub(crate) fn settled_in(
     let at = q % 8 * 64 + k % 64;
     let e = Entry::unpack(entries[at]);
     e.data
+}
+
+pub(crate) fn settled_all(
+    memory: &Memory,
+    lines: &Copies,
+    entries: &Copies,
+    flags: &Flags,
+    d: Dims,
+) -> Memory
+    requires { ⌜ d .words ≤ 256 ⌝ }
+    ensures { λ r. ⌜ r ≡ settledAll d (lent memory lines entries flags) ⌝ }
+{
+    let mut values = [0u32; 256];
+    let n = d.words;
+    let mut a: usize = 0;
+    while a < n {
+        values[a] = settled_in(memory, lines, entries, flags, d, a as u8);
+        a += 1;
+    }
+    values
 }

@@ -1,8 +1,11 @@
--- One step: refusals 9, 6, 7, 8, then the step by its number; and the settled value with refusals 9 and 8.
-use mathlib.Core.Bool.{Bool, not}
+-- One step: refusals 9, 6, 7, 8, then the step by its number; and the settled values, with refusals 9 and 8.
+use mathlib.Core.Bool.{not}
+use mathlib.Core.List.{List}
 use Prim.Native.Nat.{ℕ, _%_}
 use lib.Dec.{eqb, ltb}
+use lib.ListN.{set, replicate}
 use Rattle.laws.specs.Choice.{pick, either}
+use Rattle.laws.specs.Fold.{foldRange}
 use Rattle.entry.specs.declared.answer.Answer.{Answer}
 use Rattle.entry.specs.declared.answer.Answer.the-variants.{Value, Refused}
 use Rattle.entry.specs.declared.answer.Answered.{Answered}
@@ -14,6 +17,7 @@ use Rattle.entry.specs.Answer.{refusedBy}
 use Rattle.rules.specs.declared.Dims.{Dims}
 use Rattle.rules.specs.declared.Machine.{Machine}
 use Rattle.rules.specs.declared.Stepped.{Stepped}
+use Rattle.rules.specs.declared.Settle.{Settle}
 use Rattle.rules.specs.State.{Caches, cachesOf, machineOf, Outcome, outcome}
 use Rattle.rules.specs.Load.{load}
 use Rattle.rules.specs.Store.{store}
@@ -70,7 +74,23 @@ stepOf m x =
     let r = takeStep (m .dims) x (cachesOf m) in
     unless (soundOf (m .dims) (cachesOf m)) (stepped (refusedBy notSound) m) (steppedOf (m .dims) r)
 
+-- The settled value of one word.
 unfoldable pub settledOf : Machine → ℕ → Answer
 settledOf m word =
     let a = Value (settledIn (m .dims) word (cachesOf m)) in
     unless (soundOf (m .dims) (cachesOf m)) (Refused notSound) (unless (ltb word (m .dims .words)) (Refused noSuchWord) a)
+
+abbrev pub settle : ℕ → List ℕ → Settle
+settle n values = record { refusal = n; values = values }
+
+abbrev pub settleTurn : Dims → Caches → ℕ → List ℕ → List ℕ
+settleTurn d s word values = set values word (settledIn d word s)
+
+-- The settled value of every word, 0 past the words.
+unfoldable pub settledAll : Dims → Caches → List ℕ
+settledAll d s = foldRange (settleTurn d s) 0 (d .words) (replicate 256 0)
+
+unfoldable pub settleOf : Machine → Settle
+settleOf m =
+    let a = settledAll (m .dims) (cachesOf m) in
+    unless (soundOf (m .dims) (cachesOf m)) (settle notSound (replicate 256 0)) (settle accepted a)

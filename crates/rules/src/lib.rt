@@ -41,6 +41,12 @@ pub struct Made {
     pub machine: Machine,
 }
 
+// Every word's settled value, 0 past the words.
+pub struct Settle {
+    pub refusal: u8,
+    pub values: Memory,
+}
+
 pub struct Stepped {
     pub told: Answered,
     pub machine: Machine,

@@ -4,6 +4,8 @@ mod columns;
 mod running;
 
 use crate::columns::also;
+use entry::refusals::BAD_COLUMNS;
+use entry::refusals::NOT_SOUND;
 use rules::Machine;
 use rules::Ran;
 ghost use mathlib.Core.Path.{_≡_};
@@ -64,7 +66,7 @@ pub fn run(
     if !machine::sound(m) {
         return Ran {
             taken: 0,
-            refusal: 9,
+            refusal: NOT_SOUND,
             machine: m,
         };
     }
@@ -84,7 +86,7 @@ pub fn run(
     ) {
         return Ran {
             taken: 0,
-            refusal: 10,
+            refusal: BAD_COLUMNS,
             machine: m,
         };
     }

@@ -3,17 +3,14 @@
 use crate::columns::byte_at;
 use crate::columns::number_at;
 use crate::columns::write_answer;
-use entry::answer::Answered;
+use entry::refusals::ACCEPTED;
+use entry::step::Step;
 use rules::Copies;
 use rules::Dims;
 use rules::Flags;
 use rules::Memory;
 ghost use mathlib.Core.Path.{_≡_};
-ghost use Prim.Native.Nat.{_≤_};
-ghost use Rattle.rules.specs.State.{outcome};
-ghost use Rattle.entry.specs.Refusals.{accepted};
-ghost use Rattle.rules.specs.Step.{stepRefusal, takeStep};
-ghost use Rattle.rules.specs.Run.{carried, runSound};
+ghost use Rattle.rules.specs.Run.{stepAt, carried, runSound};
 ghost use Rattle.runs.specs.Halting.{halted};
 ghost use Rattle.rules.specs.Lent.{lent, returned, lentSteps, columnsOf};
 
@@ -23,23 +20,16 @@ pub struct Halt {
     pub refusal: u8,
 }
 
-// A step that is not refused uses a word below 256, or none.
-pub(crate) fn one_step(
-    memory: &mut Memory,
-    lines: &mut Copies,
-    entries: &mut Copies,
-    flags: &mut Flags,
-    d: Dims,
-    op: u8,
-    p: usize,
-    word: u32,
-    v: u32,
-) -> Answered
-    requires { ⌜ (stepRefusal d op p word ≡ accepted) × (d .words ≤ 256) ⌝ }
-    ensures { λ r. ⌜ outcome r (returned memory lines entries flags) ≡ takeStep d op p word v (lent memory lines entries flags) ⌝ }
+// The step at a place of the columns.
+fn step_at(ops: &[u8], cores: &[u8], words: &[u32], values: &[u32], i: usize) -> Step
+    ensures { λ r. ⌜ r ≡ stepAt (lentSteps ops cores words values) i ⌝ }
 {
-    let w = (word % 256) as u8;
-    steps::take_step(memory, lines, entries, flags, d, op, p, w, v)
+    Step {
+        op: byte_at(ops, i),
+        core: byte_at(cores, i) as usize,
+        word: number_at(words, i),
+        value: number_at(values, i),
+    }
 }
 
 pub(crate) fn run_sound(
@@ -61,7 +51,6 @@ pub(crate) fn run_sound(
     t_rfo: &mut [u32],
     busy: &mut [u32],
 ) -> Halt
-    requires { ⌜ d .words ≤ 256 ⌝ }
     ensures { λ r.
         let c = columnsOf answers results read rfo write «t_read» «t_rfo» busy in
         ⌜ halted d r (carried (returned memory lines entries flags) (c .exit)) ≡
@@ -70,18 +59,16 @@ pub(crate) fn run_sound(
     let n = ops.len();
     let mut i: usize = 0;
     while i < n {
-        let op = byte_at(ops, i);
-        let p = byte_at(cores, i) as usize;
-        let word = number_at(words, i);
-        let k = steps::step_refusal(d, op, p, word);
-        if k != 0 {
+        let step = step_at(ops, cores, words, values, i);
+        let told = steps::take_step(memory, lines, entries, flags, d, step);
+        let answer = told.answer;
+        let k = answer.refusal();
+        if k != ACCEPTED {
             return Halt {
                 taken: i,
                 refusal: k,
             };
         }
-        let v = number_at(values, i);
-        let told = one_step(memory, lines, entries, flags, d, op, p, word, v);
         write_answer(
             answers,
             results,
@@ -97,7 +84,7 @@ pub(crate) fn run_sound(
         i += 1;
     }
     Halt {
-        taken: i,
-        refusal: 0,
+        taken: n,
+        refusal: ACCEPTED,
     }
 }

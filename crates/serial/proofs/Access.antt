@@ -34,8 +34,8 @@ use Rattle.serial.proofs.Set.{Fit, memory-same, set-slot, entry-fit}
 use Rattle.serial.proofs.Ends.{Does, rollback-fit, rollback-is}
 use Rattle.serial.proofs.Codes.{above-code, tagged-fits}
 use Rattle.serial.proofs.Find.{entry-fits, backing, slot-tentative-at, has-tentative}
-use Rattle.serial.proofs.Others.{is-busy}
-use Rattle.serial.proofs.Requests.{by-leave, is-T-RFO}
+use Rattle.serial.proofs.Others.{refused-busy}
+use Rattle.serial.proofs.Requests.{granted-served, is-T-RFO}
 use Rattle.serial.proofs.Lined.{own-slot, own-line}
 
 pub data Access : Type 0 where
@@ -91,15 +91,15 @@ module _ {d : Dims} {s : Caches} (F : Fit d s) (p : ℕ) (lp : p < d .processors
 
 module _ {d : Dims} (a : Access) (p : ℕ) (lp : p < d .processors) (w v : ℕ) (lv : v < valueEnd) {S S₁ : View} (O : Opened p w S S₁) where
   -- p is rolled back
-  pub denied : {s : Caches} → Fit d s → (c : Counts) → Denied (kind a) p w S₁ (seen d (rollback d p s))
+  pub aborted-does : {s : Caches} → Fit d s → (c : Counts) → Denied (kind a) p w S₁ (seen d (rollback d p s))
       → Does d S (byAccess p w v) (gives Aborted c (rollback d p s))
-  denied F c D = record { fit = rollback-fit F p lp; step = fails (kind a) O D }
+  aborted-does F c D = record { fit = rollback-fit F p lp; step = fails (kind a) O D }
 
   -- p holds w tentatively, at i: the answer, or the store
-  pub finished : {s : Caches} (F : Fit d s) (i : ℕ) (li : i < d .entries) → entryAt s p i .tag ≡ TENTATIVE → entryAt s p i .word ≡ w → (c : Counts)
+  pub finish-does : {s : Caches} (F : Fit d s) (i : ℕ) (li : i < d .entries) → entryAt s p i .tag ≡ TENTATIVE → entryAt s p i .word ≡ w → (c : Counts)
       → Obtained (kind a) (d .processors) p w S₁ (seen d s) → Does d S (byAccess p w v) (finish (number a) p i v c s)
   unfolding finish
-  finished {s} F i li ht hw c H = by a H
+  finish-does {s} F i li ht hw c H = by a H
     where
       as-stored : stored (entryAt s p i) v ≡ entry DIRTY TENTATIVE w v
       as-stored = ap (λ (t : ℕ). entry DIRTY t (entryAt s p i .word) v) ht ∙ ap (λ (u : ℕ). entry DIRTY TENTATIVE u v) hw
@@ -141,7 +141,7 @@ module _ {d : Dims} (p : ℕ) (lp : p < d .processors) (w v : ℕ) (lv : v < val
 
       granted : refuses d p w T-RFO (s .entries) ≡ false → Does d S (byAccess p w v) (finish (number a) p i v (asked T-RFO n 0) s₃)
       granted h =
-          let g = by-leave F owning T-RFO is-T-RFO p w lp h in
+          let g = granted-served F owning T-RFO is-T-RFO p w lp h in
           let F₂ = g .0 .fit in
           let same = g .0 .own .entries i (omega (arith, F .frame .size .entries)) in
           let ht₂ : entryAt s₂ p i .tag ≡ TENTATIVE = ap (λ (e : Entry). e .tag) same ∙ ht in
@@ -154,20 +154,20 @@ module _ {d : Dims} (p : ℕ) (lp : p < d .processors) (w v : ℕ) (lv : v < val
           let back : backing F₂ p lp w ≡ backing F p lp w =
           ap (λ (f : ℕ → Slot). backOf (d .entries) (home d) f (decoded d s₂ .line p) w) (fun-ext (own-slot (F .frame .size) p (g .0 .own))) ∙
           ap (λ (f : ℕ → Line). backOf (d .entries) (home d) (decoded d s .slot p) f w) (fun-ext (own-line (F .frame .size) p (g .0 .own))) in
-          finished a p lp w v lv O (turn-fit F₂ p lp w i li ht₂ hw₂ RESERVED x l nr lx) i li (ap (λ (e : Entry). e .tag) z)
+          finish-does a p lp w v lv O (turn-fit F₂ p lp w i li ht₂ hw₂ RESERVED x l nr lx) i li (ap (λ (e : Entry). e .tag) z)
           (ap (λ (e : Entry). e .word) z)
           (asked T-RFO n 0) (raises was (g .1) (k .1) (k .2 ∙ ap (λ (b : Back). tentative reserved x b false) back) refl)
 
       by : (b : Bool) → refuses d p w T-RFO (s .entries) ≡ b
           → Does d S (byAccess p w v)
           (pick b (busy d p T-RFO n s) (finish (number a) p i v (asked T-RFO n 0) (withEntry s₂ p i (withState (entryAt s p i) RESERVED))))
-      by true h = denied a p lp w v lv O F (asked T-RFO n 1) (no-raise was (is-busy F p w owning T-RFO is-T-RFO h) (rollback-is F p lp))
+      by true h = aborted-does a p lp w v lv O F (asked T-RFO n 1) (no-raise was (refused-busy F p w owning T-RFO is-T-RFO h) (rollback-is F p lp))
       by false h =
           subst⁻¹ (λ (e : Entry). Does d S (byAccess p w v) (finish (number a) p i v (asked T-RFO n 0) (withEntry s₂ p i e))) raised (granted h)
 
   silent-does : (a : Access) → (n : ℕ) → enough (kind a) (stateOf (entryAt s p i .state)) ≡ true
       → Does d S (byAccess p w v) (finish (number a) p i v (quiet n) s)
-  silent-does a n h = finished a p lp w v lv O F i li ht hw (quiet n) (has-it (copy-is F p lp w i li ht hw) h same-refl)
+  silent-does a n h = finish-does a p lp w v lv O F i li ht hw (quiet n) (has-it (copy-is F p lp w i li ht hw) h same-refl)
 
   -- LTX and ST
   owning-does : (a : Access) → kind a ≡ owning → (n : ℕ) → (b : Bool) → eqb (entryAt s p i .state) VALID ≡ b

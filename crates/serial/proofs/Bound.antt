@@ -8,8 +8,10 @@ use Rattle.laws.specs.Choice.{pick}
 use Rattle.entry.specs.declared.Entry.{Entry}
 use Rattle.entry.specs.declared.answer.Answer.the-variants.{Value, Done, Success}
 use Rattle.entry.specs.declared.answer.Counts.{Counts}
+use Rattle.entry.specs.declared.step.Step.{Step}
 use Rattle.entry.specs.Numbers.{VALID, DIRTY, NORMAL, TENTATIVE, LOAD, STORE, LT, LTX, ST, COMMIT, ABORT, VALIDATE, INTERRUPT, RFO, T-READ, T-RFO}
 use Rattle.entry.specs.Answer.{asked, quiet, noCycles, refusedBy}
+use Rattle.entry.specs.Refusals.{accepted, notSound}
 use Rattle.rules.specs.declared.Dims.{Dims}
 use Rattle.rules.specs.declared.Machine.{Machine}
 use Rattle.rules.specs.State.{Caches, cachesOf, Outcome, Counted, counted, lineAt, entryAt, TSTATUS}
@@ -22,8 +24,7 @@ use Rattle.rules.specs.Transact.{requestOf, dropLine, finish, hit, openNormal, 
 use Rattle.rules.specs.Ends.{commit, abort, validate, interrupt}
 use Rattle.rules.specs.Making.{dims}
 use Rattle.rules.specs.SoundTest.{soundOf}
-use Rattle.entry.specs.Refusals.{accepted, notSound}
-use Rattle.rules.specs.Step.{stepRefusal, takeStep, stepped, steppedOf, stepSound, stepOf}
+use Rattle.rules.specs.Step.{operandsRefusal, allowed, narrowed, takeStep, stepped, steppedOf, stepOf}
 use Rattle.rules.proofs.Table.{row, case, passes}
 use Rattle.serial.specs.Bounded.{Bounded}
 use Rattle.serial.proofs.Access.{Access, lt, ltx, st, number}
@@ -31,16 +32,16 @@ use Rattle.serial.proofs.Access.{Access, lt, ltx, st, number}
 abbrev Within : Outcome → Type 0
 Within r = Bounded (r .told .counts)
 
-nothing : Bounded noCycles
-nothing = record { writes = omega arith; requests = omega arith; busy = omega arith }
+no-cycles-bound : Bounded noCycles
+no-cycles-bound = record { writes = omega arith; requests = omega arith; busy = omega arith }
 
-quietly : (w : ℕ) → w ≤ 3 → Bounded (quiet w)
-quietly w l = record { writes = l; requests = omega arith; busy = omega arith }
+quiet-bound : (w : ℕ) → w ≤ 3 → Bounded (quiet w)
+quiet-bound w l = record { writes = l; requests = omega arith; busy = omega arith }
 
 -- a choice of two that are bounded
-either-way : (b : Bool) (x y : Outcome) → Within x → Within y → Within (pick b x y)
-either-way true x y a b = a
-either-way false x y a b = b
+either-bound : (b : Bool) (x y : Outcome) → Within x → Within y → Within (pick b x y)
+either-bound true x y a b = a
+either-bound false x y a b = b
 
 one-write : (e : Entry) → writes e ≤ 1
 unfolding writes
@@ -55,21 +56,22 @@ counted-most true x y a b = a
 counted-most false x y a b = b
 
 module _ (d : Dims) (p w : ℕ) where
-  miss-bound : (s : Caches) → Within (loadMiss d p w s)
+  load-miss-bound : (s : Caches) → Within (loadMiss d p w s)
   unfolding loadMiss
-  miss-bound s = let l = one-write (lineAt s p (home d w)) in record { writes = omega arith; requests = omega arith; busy = omega arith }
+  load-miss-bound s = let l = one-write (lineAt s p (home d w)) in record { writes = omega arith; requests = omega arith; busy = omega arith }
 
-  on-bound : (s : Caches) → Within (loadOn d p w s)
+  load-on-bound : (s : Caches) → Within (loadOn d p w s)
   unfolding loadOn
-  on-bound s = either-way (ltb (findEntry (s .entries) p (d .entries) NORMAL w) (d .entries)) _ (loadMiss d p w s) nothing (miss-bound s)
+  load-on-bound s = either-bound (ltb (findEntry (s .entries) p (d .entries) NORMAL w) (d .entries)) _ (loadMiss d p w s) no-cycles-bound
+      (load-miss-bound s)
 
   load-bound : (s : Caches) → Within (load d p w s)
   unfolding load
   load-bound s =
       let i = findEntry (s .entries) p (d .entries) TENTATIVE w in
-      either-way (holds (lineAt s p (home d w)) w) _ _ nothing
-      (either-way (ltb i (d .entries)) _ _
-      (either-way (eqb (entryAt s p i .state) VALID) _ _ nothing (on-bound (rollback d p s))) (on-bound s))
+      either-bound (holds (lineAt s p (home d w)) w) _ _ no-cycles-bound
+      (either-bound (ltb i (d .entries)) _ _
+      (either-bound (eqb (entryAt s p i .state) VALID) _ _ no-cycles-bound (load-on-bound (rollback d p s))) (load-on-bound s))
 
   module _ (v : ℕ) where
     store-bound : (s : Caches) → Within (store d p w v s)
@@ -82,14 +84,14 @@ module _ (d : Dims) (p w : ℕ) where
         by : (k : Counted) → k .writes ≤ 1 → Within (storeLine d p w v k)
         by k l =
             let one = one-write (lineAt (k .after) p (home d w)) in
-            either-way (holds (lineAt (k .after) p (home d w)) w) _ _
-            (either-way (eqb (lineAt (k .after) p (home d w) .state) VALID) _ _
-            (record { writes = omega arith; requests = omega arith; busy = omega arith }) (quietly (k .writes) (omega arith)))
+            either-bound (holds (lineAt (k .after) p (home d w)) w) _ _
+            (either-bound (eqb (lineAt (k .after) p (home d w) .state) VALID) _ _
+            (record { writes = omega arith; requests = omega arith; busy = omega arith }) (quiet-bound (k .writes) (omega arith)))
             (record { writes = omega arith; requests = omega arith; busy = omega arith })
 
     finish-bound : (op i : ℕ) (c : Counts) (s : Caches) → Bounded c → Within (finish op p i v c s)
     unfolding finish
-    finish-bound op i c s h = either-way (eqb op ST) _ _ h h
+    finish-bound op i c s h = either-bound (eqb op ST) _ _ h h
 
     -- T_READ and T_RFO, refused or not
     asked-bound : (a : Access) (n b : ℕ) → n ≤ 3 → b ≤ 1 → Bounded (asked (requestOf (number a)) n b)
@@ -103,16 +105,16 @@ module _ (d : Dims) (p w : ℕ) where
     hit-bound : (op i x y : ℕ) (s : Caches) → x + y ≤ 3 → Within (hit d op p i w v x y s)
     unfolding hit
     hit-bound op i x y s l =
-        let silent = finish-bound op i (quiet (x + y)) s (quietly (x + y) l) in
-        either-way (eqb op LT) _ _ silent
-        (either-way (eqb (entryAt s p i .state) VALID) _ _
-        (either-way (refuses d p w T-RFO (s .entries)) _ _ (raised-bound (x + y) 1 l (omega arith))
+        let silent = finish-bound op i (quiet (x + y)) s (quiet-bound (x + y) l) in
+        either-bound (eqb op LT) _ _ silent
+        (either-bound (eqb (entryAt s p i .state) VALID) _ _
+        (either-bound (refuses d p w T-RFO (s .entries)) _ _ (raised-bound (x + y) 1 l (omega arith))
         (finish-bound op i (asked T-RFO (x + y) 0) _ (raised-bound (x + y) 0 l (omega arith)))) silent)
 
     request-bound : (a : Access) (i b n : ℕ) (s : Caches) → n ≤ 3 → Within (request d (number a) p i b w v n s)
     unfolding request fill
     request-bound a i b n s l =
-        either-way (refuses d p w (requestOf (number a)) (s .entries)) _ _ (asked-bound a n 1 l (omega arith))
+        either-bound (refuses d p w (requestOf (number a)) (s .entries)) _ _ (asked-bound a n 1 l (omega arith))
         (finish-bound (number a) i (asked (requestOf (number a)) n 0) _ (asked-bound a n 0 l (omega arith)))
 
     access-miss-bound : (a : Access) (n : ℕ) (s : Caches) → n ≤ 1 → Within (miss d (number a) p w v n s)
@@ -124,7 +126,7 @@ module _ (d : Dims) (p w : ℕ) where
         let one = one-write (entryAt s p i) in
         let two = counted-most (ltb b (d .entries)) (counted (writes (entryAt t p b)) (clearEntry t p b)) (counted 0 t) (one-write (entryAt t p b))
         (omega arith) in
-        either-way (ltb i (d .entries)) _ _ (request-bound a i b _ _ (omega arith)) (quietly n (omega arith))
+        either-bound (ltb i (d .entries)) _ _ (request-bound a i b _ _ (omega arith)) (quiet-bound n (omega arith))
 
     open-most : (j : ℕ) (s : Caches) → openNormal d p j s .writes ≤ 1
     unfolding openNormal
@@ -137,8 +139,8 @@ module _ (d : Dims) (p w : ℕ) where
         let i = findEntry (s .entries) p (d .entries) TENTATIVE w in
         let j = findEntry (s .entries) p (d .entries) NORMAL w in
         let o = open-most j s in
-        either-way (ltb i (d .entries)) _ _ (hit-bound (number a) i (k .writes) 0 s (omega arith))
-        (either-way (ltb j (d .entries)) _ _
+        either-bound (ltb i (d .entries)) _ _ (hit-bound (number a) i (k .writes) 0 s (omega arith))
+        (either-bound (ltb j (d .entries)) _ _
         (hit-bound (number a) j (k .writes) (openNormal d p j s .writes) (openNormal d p j s .after) (omega arith))
         (access-miss-bound a (k .writes) s l))
 
@@ -146,35 +148,47 @@ module _ (d : Dims) (p w : ℕ) where
     unfolding transact dropLine
     transact-bound a s =
         let t = begun p s in
-        either-way (TSTATUS t p) _ _
+        either-bound (TSTATUS t p) _ _
         (seek-bound a (dropLine d p w t) (counted-most (holds (lineAt t p (home d w)) w) _ _ (one-write (lineAt t p (home d w))) (omega arith)))
-        nothing
+        no-cycles-bound
 
-pub step-bound : (d : Dims) (op p w v : ℕ) (s : Caches) → Bounded (takeStep d op p w v s .told .counts)
-unfolding takeStep commit abort validate interrupt
-step-bound d op p w v s =
-    either-way (eqb op LOAD) _ _ (load-bound d p w s)
-    (either-way (eqb op STORE) _ _ (store-bound d p w v s)
-    (either-way (eqb op LT) _ _ (transact-bound d p w v lt s)
-    (either-way (eqb op LTX) _ _ (transact-bound d p w v ltx s)
-    (either-way (eqb op ST) _ _ (transact-bound d p w v st s)
-    (either-way (eqb op COMMIT) _ _ (either-way (TSTATUS s p) _ _ nothing nothing)
-    (either-way (eqb op ABORT) _ _ nothing
-    (either-way (eqb op VALIDATE) _ _ (either-way (TSTATUS s p) _ _ nothing nothing) (either-way (eqb op INTERRUPT) _ _ nothing nothing))))))))
+module _ (d : Dims) (x : Step) (s : Caches) where
+  allowed-bound : (r : Outcome) → Within r → Within (allowed d x s r)
+  allowed-bound r h = either-bound (eqb (operandsRefusal d x) accepted) _ _ h no-cycles-bound
+
+  pub step-bound : Bounded (takeStep d x s .told .counts)
+  unfolding takeStep commit abort validate interrupt
+  step-bound =
+      either-bound (eqb op LOAD) _ _ (allowed-bound _ (load-bound d p w s))
+      (either-bound (eqb op STORE) _ _ (allowed-bound _ (store-bound d p w v s))
+      (either-bound (eqb op LT) _ _ (allowed-bound _ (transact-bound d p w v lt s))
+      (either-bound (eqb op LTX) _ _ (allowed-bound _ (transact-bound d p w v ltx s))
+      (either-bound (eqb op ST) _ _ (allowed-bound _ (transact-bound d p w v st s))
+      (either-bound (eqb op COMMIT) _ _ (allowed-bound _ (either-bound (TSTATUS s p) _ _ no-cycles-bound no-cycles-bound))
+      (either-bound (eqb op ABORT) _ _ (allowed-bound _ no-cycles-bound)
+      (either-bound (eqb op VALIDATE) _ _ (allowed-bound _ (either-bound (TSTATUS s p) _ _ no-cycles-bound no-cycles-bound))
+      (either-bound (eqb op INTERRUPT) _ _ (allowed-bound _ no-cycles-bound) no-cycles-bound))))))))
+    where
+      op : ℕ
+      op = x .op
+
+      p : ℕ
+      p = x .core
+
+      w : ℕ
+      w = narrowed (x .word)
+
+      v : ℕ
+      v = x .value
 
 -- the machine's step, a refused one too
-pub machine-bound : (m : Machine) (op p w v : ℕ) → Bounded (stepOf m op p w v .told .counts)
-unfolding stepOf stepSound
-machine-bound m op p w v = by (soundOf (m .dims) (cachesOf m)) (eqb (stepRefusal (m .dims) op p w) accepted)
+pub machine-bound : (m : Machine) (x : Step) → Bounded (stepOf m x .told .counts)
+unfolding stepOf
+machine-bound m x = by (soundOf (m .dims) (cachesOf m))
   where
-    by : (a b : Bool)
-        → Bounded
-        (pick a
-        (pick b (steppedOf (m .dims) (takeStep (m .dims) op p w v (cachesOf m))) (stepped (refusedBy (stepRefusal (m .dims) op p w)) m))
-        (stepped (refusedBy notSound) m) .told .counts)
-    by true true = step-bound (m .dims) op p w v (cachesOf m)
-    by true false = nothing
-    by false b = nothing
+    by : (b : Bool) → Bounded (pick b (steppedOf (m .dims) (takeStep (m .dims) x (cachesOf m))) (stepped (refusedBy notSound) m) .told .counts)
+    by true = step-bound (m .dims) x (cachesOf m)
+    by false = no-cycles-bound
 
 -- the last LT drops a DIRTY regular copy of its word, and both its slots were DIRTY NORMAL entries
 pub three-writes : T

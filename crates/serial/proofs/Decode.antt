@@ -1,7 +1,7 @@
 -- The machine's lists read as the theory's slots and lines. What lies outside the dimensions reads as empty, whatever stands there.
 use mathlib.Core.Path.{_≡_, refl, _∙_, ap}
 use mathlib.Core.Logic.{_≢_, _⊎_, inl, inr}
-use mathlib.Core.Bool.{Bool, true, false}
+use mathlib.Core.Bool.{Bool, true, false, not}
 use mathlib.Core.List.{List}
 use Prim.Native.Nat.{ℕ, _≤_, _<_}
 use native.Mathlib.Omega.{arith}
@@ -14,7 +14,7 @@ use Rattle.entry.specs.declared.Entry.{Entry}
 use Rattle.entry.specs.Numbers.{INVALID, RESERVED, DIRTY, NORMAL, BACKUP, TENTATIVE}
 use Rattle.entry.specs.Packing.{pack, unpack, InRange, unpack-pack}
 use Rattle.rules.specs.declared.Dims.{Dims}
-use Rattle.rules.specs.State.{Caches, place, copyAt, withCopy, wordAt, TACTIVE, TSTATUS}
+use Rattle.rules.specs.State.{Caches, place, copyAt, withCopy, wordAt, falseFlag, activeFlag, TSTATUS}
 use Rattle.rules.specs.Own.{home}
 use Rattle.theory.specs.View.{LineState, valid, reserved, dirty, View}
 use Rattle.theory.proofs.Cache.{Slot, vacant, slotNormal, slotBackup, slotTentative, Line, blank, filled}
@@ -45,7 +45,7 @@ decoded d s = record {
   memory = λ w. wordAt s w;
   slot = λ p i. readBy slotOf vacant (d .processors) (d .entries) (s .entries) p i;
   line = λ p i. readBy lineOf blank (d .processors) (d .lines) (s .lines) p i;
-  active = λ p. both (ltb p (d .processors)) (TACTIVE s p);
+  active = λ p. both (ltb p (d .processors)) (not (eqb (activeFlag (s .flags) p) falseFlag));
   status = λ p. both (ltb p (d .processors)) (TSTATUS s p);
 }
 

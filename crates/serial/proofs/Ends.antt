@@ -33,7 +33,7 @@ use Rattle.serial.proofs.Decode.{slotOf, decoded, seen, read-at, read-s
 use Rattle.serial.proofs.Frame.{EntryFits, Fits, Frame}
 use Rattle.serial.proofs.Set.{Fit}
 use Rattle.serial.proofs.Over.{over-in, over-else, over-copies, slot-rolled, slot-committed, range-ends, fits-ends}
-use Rattle.serial.proofs.Flag.{FlagsTo, set-active, down, ended-flags}
+use Rattle.serial.proofs.Flag.{FlagsTo, set-active, status-down-flags, ended-flags}
 
 -- an outcome is a step of the theory that shows the events of its answer, and leaves the state fit
 pub record Does (d : Dims) (S : View) (es : Answer → List Event) (r : Outcome) : Type 0 where
@@ -83,13 +83,14 @@ module _ {d : Dims} {s : Caches} (F : Fit d s) (p : ℕ) (lp : p < d .processors
   rolls : AllTidy (d .entries) (home d) (decoded d (rollback d p s)) × RolledBack p (seen d s) (seen d (rollback d p s))
   unfolding rolledEntries
   rolls =
-      let T = down (F .frame .flags) (F .frame .size .processors) p lp in
+      let T = status-down-flags (F .frame .flags) (F .frame .size .processors) p lp in
       rolled-back (d .entries) (home d) p (F .tidy) (maps rolledBack (range-ends TENTATIVE BACKUP) slotRollback slot-rolled T) (T .active) (T .status)
 
   pub rollback-fit : Fit d (rollback d p s)
   unfolding rolledEntries
   rollback-fit = record {
-    frame = mapped-frame rolledBack (range-ends TENTATIVE BACKUP) slotRollback slot-rolled (down (F .frame .flags) (F .frame .size .processors) p lp)
+    frame = mapped-frame rolledBack (range-ends TENTATIVE BACKUP) slotRollback slot-rolled
+        (status-down-flags (F .frame .flags) (F .frame .size .processors) p lp)
         (λ i. fits-ends TENTATIVE BACKUP (λ z. omega arith));
     tidy = rolls .0;
   }

@@ -17,7 +17,7 @@ use Rattle.rules.specs.State.{Caches, lineAt, entryAt, activePlace, statusPlace
 use Rattle.rules.specs.Own.{home}
 use Rattle.rules.specs.Making.{dimsRefusal}
 use Rattle.entry.specs.Refusals.{accepted}
-use Rattle.rules.specs.Sound.{Sound, Held, HasCopy, Tentative}
+use Rattle.rules.specs.Sound.{Sound, Held, Owning, HasCopy, Tentative}
 use Rattle.theory.specs.View.{LineState, regular, above, dirtyState, has, exclusive, below}
 use Rattle.theory.specs.View
 use Rattle.theory.proofs.OneWord.{below-above}
@@ -209,7 +209,8 @@ module _ {d : Dims} {s : Caches} (F : Fit d s) (C : Coherent (d .processors) (se
       code-below (entryAt s p i .state) (entryAt s p j .state) (omega arith) (omega arith) (f .held) (g .held)
       (subst (λ (x : LineState). below (stateOf (entryAt s p i .state)) x) q (rw (b .3) at (C .order (entryAt s p j .word) p)))
 
-  exclusive-clause : (p q : ℕ) (e f : Entry) → p < 8 → q < 8 → p ≢ q → HasCopy s p e → HasCopy s q f → RESERVED ≤ e .state → Held f → f .word ≢ e .word
+  exclusive-clause : (p q : ℕ) (e f : Entry) → p < 8 → q < 8 → p ≢ q → HasCopy s p e → HasCopy s q f → Owning e → Held f
+      → f .word ≢ e .word
   exclusive-clause p q e f lp lq n ce cf h hf z =
       let a = known p e lp ce (λ y. omega arith) in
       let b = known q f lq cf hf in

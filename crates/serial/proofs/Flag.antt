@@ -76,9 +76,9 @@ module _ {n : ℕ} {f : List ℕ} (F : Flags n f) (ln : n ≤ 8) (p : ℕ) (lp :
     status-else = λ q i. flag-same n statusPlace f q (activePlace p) v (λ l z. omega arith);
   }
 
-  pub down : FlagsTo n p (flag n activePlace f p) false f (statusDown f p)
+  pub status-down-flags : FlagsTo n p (flag n activePlace f p) false f (statusDown f p)
   unfolding statusDown
-  down = set-status falseFlag (omega arith)
+  status-down-flags = set-status falseFlag (omega arith)
 
 pub ended-flags : {n : ℕ} {f : List ℕ} → Flags n f → n ≤ 8 → (p : ℕ) → p < n
     → FlagsTo n p false true f (set (set f (activePlace p) falseFlag) (statusPlace p) trueFlag)

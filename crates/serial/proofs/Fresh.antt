@@ -28,7 +28,7 @@ use Rattle.serial.proofs.Decode.{slotOf, lineOf, readBy, decoded, seen}
 use Rattle.serial.proofs.Frame.{LineFits, EntryFits, Copies, Words, Flags, Size, Frame}
 use Rattle.serial.proofs.Set.{Fit}
 use Rattle.serial.proofs.Sizes.{size-of}
-use Rattle.serial.proofs.Requests.{beyond}
+use Rattle.serial.proofs.Requests.{beyond-none}
 use Rattle.serial.proofs.FitSound.{fit-sound}
 
 zeros : (k i : ℕ) → getD (replicate k falseFlag) i 0 ≡ 0
@@ -142,7 +142,8 @@ module _ (d : Dims) (memory : List ℕ) (dims : dimsRefusal d ≡ accepted) (lon
 
   pub fresh-sound : Sound d (fresh d memory)
   fresh-sound =
-      fit-sound fresh-fit (agree→coherent (d .processors) (bare-inv (seen d (fresh d memory)) fresh-bare .agree) (beyond d (fresh d memory))) dims
+      fit-sound fresh-fit (agree→coherent (d .processors) (bare-inv (seen d (fresh d memory)) fresh-bare .agree)
+      (beyond-none d (fresh d memory))) dims
 
   -- the memory that the caller gave
   pub fresh-memory : (w : ℕ) → getD (fresh d memory .memory) w 0 ≡ getD memory w 0

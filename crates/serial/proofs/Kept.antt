@@ -1,73 +1,75 @@
--- Every step that is not refused keeps a sound state sound, from any sound state; so does a step of the machine, and a run.
-use mathlib.Core.Path.{_≡_, refl}
+-- Every step keeps a sound state sound, from any sound state, a refused one too; so does a step of the machine, and a run.
+use mathlib.Core.Path.{_≡_, refl, subst⁻¹}
 use mathlib.Core.Bool.{Bool, true, false}
 use Prim.Native.Nat.{ℕ, _<_}
 use native.Mathlib.Omega.{arith}
 use lib.Dec.{eqb}
-use lib.ListN.{length, getD}
-use borrow.Author.Tests.{eqb-true, eqb-false, eq-eqb, not-false}
+use lib.ListN.{length}
+use borrow.Author.Tests.{eqb-true, eqb-false}
 use Rattle.laws.specs.Choice.{pick}
 use Rattle.laws.specs.Until.{until-inv}
+use Rattle.entry.specs.declared.step.Step.{Step}
 use Rattle.entry.specs.Answer.{refusalNumber, refusedBy}
+use Rattle.entry.specs.Refusals.{accepted, notSound, badColumns}
 use Rattle.rules.specs.declared.Dims.{Dims}
 use Rattle.rules.specs.declared.Machine.{Machine}
 use Rattle.rules.specs.State.{Caches, cachesOf}
-use Rattle.entry.specs.Refusals.{accepted, notSound, badColumns}
 use Rattle.rules.specs.Sound.{Sound}
 use Rattle.rules.specs.SoundTest.{soundOf}
-use Rattle.rules.specs.Step.{stepRefusal, takeStep, stepped, steppedOf, stepSound, stepOf}
-use Rattle.rules.specs.Run.{Steps, Columns, columnsOk, Carried, carried, left, refusalAt, stopsAt, turn, runSound, runOf}
+use Rattle.rules.specs.Step.{takeStep, stepped, steppedOf, stepOf}
+use Rattle.rules.specs.Run.{Steps, Columns, columnsOk, Carried, carried, left, stepAt, stopsAt, turn, runSound, runOf}
+use Rattle.rules.proofs.Answers.{refusalOf, refused-stays}
+use Rattle.rules.proofs.Taken.{Taken, taken}
 use Rattle.theory.proofs.Coherent.{coherent-step}
 use Rattle.sound.proofs.Exact.{sound-true}
-use Rattle.serial.specs.Taking.{valueEnd, Values, SoundState}
-use Rattle.serial.proofs.Requests.{beyond}
-use Rattle.serial.proofs.Steps.{taken, step-does}
+use Rattle.serial.specs.Taking.{valueEnd, Values, SoundState, answerTo}
+use Rattle.serial.proofs.Requests.{beyond-none}
+use Rattle.serial.proofs.Steps.{step-does}
 use Rattle.serial.proofs.SoundFit.{sound-fit}
 use Rattle.serial.proofs.SoundCoherent.{sound-coherent, seen-coarse}
 use Rattle.serial.proofs.FitSound.{fit-sound}
 
-pub step-kept : {d : Dims} {s : Caches} → SoundState d s → (op p w v : ℕ) → stepRefusal d op p w ≡ accepted → v < valueEnd
-    → SoundState d (takeStep d op p w v s .after)
-step-kept {d} {s} G op p w v e lv =
-    let F = sound-fit (G .sound) (G .values) in
-    let x = step-does F op p w v (taken d op p w e) lv in
-    let C = coherent-step (d .processors) (sound-coherent (G .sound) (G .values)) (seen-coarse F) (beyond d (takeStep d op p w v s .after))
-    (x .step) in
-    record { sound = fit-sound (x .fit) C (G .sound .dimensions); values = x .fit .frame .memory .small }
-
--- what a step that is not refused is
-pub record Stepping (m : Machine) (op p w v : ℕ) : Type 0 where
-  pub refusal : stepRefusal (m .dims) op p w ≡ accepted
-  pub is : stepOf m op p w v ≡ steppedOf (m .dims) (takeStep (m .dims) op p w v (cachesOf m))
-
-pub stepping : (m : Machine) (op p w v : ℕ) → refusalNumber (stepOf m op p w v .told .answer) ≡ accepted → Stepping m op p w v
-unfolding stepOf stepSound
-stepping m op p w v e = by (soundOf (m .dims) (cachesOf m)) refl (eqb n accepted) refl e
+pub step-kept : {d : Dims} {s : Caches} → SoundState d s → (x : Step) → x .value < valueEnd → SoundState d (takeStep d x s .after)
+step-kept {d} {s} G x lv = by (eqb n accepted) refl
   where
     n : ℕ
-    n = stepRefusal (m .dims) op p w
+    n = refusalOf (takeStep d x s)
 
-    by : (a : Bool) → soundOf (m .dims) (cachesOf m) ≡ a → (b : Bool) → eqb n accepted ≡ b
+    by : (b : Bool) → eqb n accepted ≡ b → SoundState d (takeStep d x s .after)
+    by true h =
+        let F = sound-fit (G .sound) (G .values) in
+        let o = step-does F x (taken d x s (eqb-true n accepted h)) lv in
+        let C = coherent-step (d .processors) (sound-coherent (G .sound) (G .values)) (seen-coarse F) (beyond-none d (takeStep d x s .after))
+        (o .step) in
+        record { sound = fit-sound (o .fit) C (G .sound .dimensions); values = o .fit .frame .memory .small }
+    by false h = subst⁻¹ (SoundState d) (refused-stays d x s (eqb-false n accepted h)) G
+
+-- what a step that is not refused is
+pub record Stepping (m : Machine) (x : Step) : Type 0 where
+  pub fields : Taken (m .dims) x
+  pub is : stepOf m x ≡ steppedOf (m .dims) (takeStep (m .dims) x (cachesOf m))
+
+pub accepted-stepping : (m : Machine) (x : Step) → refusalNumber (answerTo m x) ≡ accepted → Stepping m x
+unfolding stepOf
+accepted-stepping m x e = by (soundOf (m .dims) (cachesOf m)) refl e
+  where
+    by : (a : Bool) → soundOf (m .dims) (cachesOf m) ≡ a
         → refusalNumber
-        (pick a (pick b (steppedOf (m .dims) (takeStep (m .dims) op p w v (cachesOf m))) (stepped (refusedBy n) m))
-        (stepped (refusedBy notSound) m) .told .answer)
-        ≡ accepted → Stepping m op p w v
-    by true ha true hb e = record { refusal = eqb-true n accepted hb; is = rw (ha, hb) }
-    by true ha false hb e = absurd (eqb-false n accepted hb e)
-    by false ha b hb e = absurd (omega (arith, e))
+        (pick a (steppedOf (m .dims) (takeStep (m .dims) x (cachesOf m))) (stepped (refusedBy notSound) m) .told .answer)
+        ≡ accepted → Stepping m x
+    by true h e = record { fields = taken (m .dims) x (cachesOf m) e; is = rw h }
+    by false h e = absurd (omega (arith, e))
 
--- and the other way: from a sound state a step within the dimensions is taken
-pub step-goes : (m : Machine) (op p w v : ℕ) → Sound (m .dims) (cachesOf m) → stepRefusal (m .dims) op p w ≡ accepted
-    → stepOf m op p w v ≡ steppedOf (m .dims) (takeStep (m .dims) op p w v (cachesOf m))
-unfolding stepOf stepSound
-step-goes m op p w v Z e = rw (sound-true (m .dims) (cachesOf m) Z, eq-eqb (stepRefusal (m .dims) op p w) accepted e)
+-- and the other way: from a sound state every step is the definition's
+pub step-goes : (m : Machine) (x : Step) → Sound (m .dims) (cachesOf m)
+    → stepOf m x ≡ steppedOf (m .dims) (takeStep (m .dims) x (cachesOf m))
+unfolding stepOf
+step-goes m x Z = rw (sound-true (m .dims) (cachesOf m) Z)
 
 -- a run
 module _ {d : Dims} (x : Steps) (values : Values (x .values)) where
   turn-kept : (i : ℕ) (c : Carried) → stopsAt d x i c ≡ false → SoundState d (c .state) → SoundState d (turn d x i c .state)
-  turn-kept i c e G =
-      step-kept G (getD (x .ops) i 0) (getD (x .cores) i 0) (getD (x .words) i 0) (getD (x .values) i 0)
-      (eqb-true (refusalAt d x i) accepted (not-false (eqb (refusalAt d x i) accepted) e)) (values i)
+  turn-kept i c e G = step-kept G (stepAt x i) (values i)
 
   sound-run-kept : (s : Caches) (c : Columns) → SoundState d s → SoundState d (cachesOf (runSound d x s c .ran .machine))
   unfolding runSound

@@ -17,6 +17,7 @@ pub mod Access
 pub mod Normal
 pub mod Miss
 pub mod Steps
+pub mod Operands
 pub mod Sizes
 pub mod SoundFit
 pub mod Under
@@ -27,3 +28,4 @@ pub mod Fresh
 pub mod Kept
 pub mod Demand3
 pub mod Bound
+pub mod Unused

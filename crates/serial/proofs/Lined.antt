@@ -148,9 +148,9 @@ pub record Unlined (d : Dims) (p w : ℕ) (s s′ : Caches) : Type 0 where
   pub clears : Unregular p w (seen d s) (seen d s′)
   pub none-left : isRegular (seen d s′ .copy w p) ≡ false
 
-pub unlined : {d : Dims} {s : Caches} → Fit d s → (p : ℕ) → p < d .processors → (w : ℕ) → Unlined d p w s (dropLine d p w s .after)
+pub drop-line-unlined : {d : Dims} {s : Caches} → Fit d s → (p : ℕ) → p < d .processors → (w : ℕ) → Unlined d p w s (dropLine d p w s .after)
 unfolding dropLine
-unlined {d} {s} F p lp w = by (holds (lineAt s p (home d w)) w) refl
+drop-line-unlined {d} {s} F p lp w = by (holds (lineAt s p (home d w)) w) refl
   where
     e : Entry
     e = lineAt s p (home d w)

@@ -26,6 +26,7 @@ use Rattle.theory.proofs.Agree.{rolledBack-tentative}
 use Rattle.theory.specs.Protocol.{load-hit, load-back, load-miss, load-bare, Fetched, Plainly, reading, isRegular, RolledBack}
 use Rattle.theory.proofs.Refine.{same-refl, freed-none}
 use Rattle.serial.specs.Shown.{byLoad}
+use Rattle.serial.specs.Taking.{valueEnd}
 use Rattle.serial.proofs.Decode.{stateOf, decoded, seen}
 use Rattle.serial.proofs.Frame.{LineFits, Fits}
 use Rattle.serial.proofs.Set.{Fit, Memory, memory-same}
@@ -33,7 +34,7 @@ use Rattle.serial.proofs.Ends.{Does, rollback-fit, rollback-is}
 use Rattle.serial.proofs.Codes.{above-code, tagged-fits}
 use Rattle.serial.proofs.Find.{home-in, is-none, found-tag, found-word, entry-fits, backing, has-regular}
 use Rattle.serial.proofs.Find.{no-regular, has-normal, has-tentative, no-normal, no-tentative}
-use Rattle.serial.proofs.Requests.{Served, by-force, is-READ}
+use Rattle.serial.proofs.Requests.{Served, plain-request-served, is-READ}
 use Rattle.serial.proofs.Lined.{lined-at, lined-fit, lined-regular, own-line, own-copy, Evicted, evicts}
 
 -- a held line of a word of the machine
@@ -41,7 +42,7 @@ pub line-entry : {d : Dims} {p w : ℕ} (x v : ℕ) → p < d .processors → ho
     → Fits (LineFits d) p (home d w) (entry x INVALID w v)
 line-entry x v lp lh lw n = inr (record { processor = lp; slot = lh; held = n; tag = refl; word = lw; at-home = refl })
 
-pub line-range : (x w v : ℕ) → x < 4 → w < 256 → v < 4294967296 → InRange (entry x INVALID w v)
+pub line-range : (x w v : ℕ) → x < 4 → w < 256 → v < valueEnd → InRange (entry x INVALID w v)
 line-range x w v lx lw lv = record { state = lx; tag = omega arith; word = lw; «data» = lv }
 
 module _ {d : Dims} {s : Caches} (F : Fit d s) (p : ℕ) (lp : p < d .processors) (w : ℕ) (lw : w < d .words) (gone : seen d s .copy w p ≡ none) where
@@ -58,12 +59,12 @@ module _ {d : Dims} {s : Caches} (F : Fit d s) (p : ℕ) (lp : p < d .processors
   ev = evicts F p lp w gone
 
   bus : Served d p s₁ s₂ × Plainly reading (d .processors) p w (seen d s₁) (seen d s₂)
-  bus = by-force (ev .fit) reading READ is-READ p w lp
+  bus = plain-request-served (ev .fit) reading READ is-READ p w lp
 
-  pub missed : Fit d (Load.loadMiss d p w s .after)
+  pub load-miss-fetched : Fit d (Load.loadMiss d p w s .after)
       × Fetched (d .processors) p w (wordAt s₂ w) (seen d s) (seen d (Load.loadMiss d p w s .after))
   unfolding Load.loadMiss
-  missed = (
+  load-miss-fetched = (
     lined-fit F₂ p lp w h refl M to rt ft refl old free,
     record {
       gap = seen d s₁;
@@ -145,7 +146,7 @@ module _ {d : Dims} {s : Caches} (F : Fit d s) (p : ℕ) (lp : p < d .processors
           }
       by false e =
           let g = is-none (seen d s .copy w p) nr (no-normal F p lp w (ltb-false i (d .entries) e)) nt in
-          let x = missed F p lp w lw g in
+          let x = load-miss-fetched F p lp w lw g in
           record { fit = x .0; step = load-miss g (x .1) }
 
   -- a tentative copy above VALID: rollback, and then its backup, or a miss
@@ -176,7 +177,7 @@ module _ {d : Dims} {s : Caches} (F : Fit d s) (p : ℕ) (lp : p < d .processors
             let nr : isRegular (seen d (rollback d p s) .copy w p) ≡ false = rw (U .cache .here w) (rolled-regular (seen d s .copy w p) (rw was)) in
             let nt : isTentative (seen d (rollback d p s) .copy w p) ≡ false = rw (U .cache .here w) (rolledBack-tentative (seen d s .copy w p)) in
             let g = is-none (seen d (rollback d p s) .copy w p) nr (no-normal R p lp w (ltb-false i (d .entries) e)) nt in
-            let m = missed R p lp w lw g in
+            let m = load-miss-fetched R p lp w lw g in
             let z = unroll-none (seen d s .copy w p) (rw was) (sym (U .cache .here w) ∙ g) in
             record { fit = m .0; step = load-bare (z .3) (cc (z .3)) U (m .1) }
 

@@ -35,11 +35,11 @@ use Rattle.serial.proofs.Decode.{stateOf, slotOf, decoded, seen, copy-h
 use Rattle.serial.proofs.Set.{Fit, memory-same, set-slot, entry-fit}
 use Rattle.serial.proofs.Ends.{Does, rollback-is}
 use Rattle.serial.proofs.Find.{slot-at}
-use Rattle.serial.proofs.Others.{Cycle, is-busy}
-use Rattle.serial.proofs.Requests.{by-leave, is-T-READ, is-T-RFO}
+use Rattle.serial.proofs.Others.{Cycle, refused-busy}
+use Rattle.serial.proofs.Requests.{granted-served, is-T-READ, is-T-RFO}
 use Rattle.serial.proofs.Lined.{own-copy}
-use Rattle.serial.proofs.Slotted.{sought, Emptied, emptied}
-use Rattle.serial.proofs.Access.{Access, lt, ltx, st, number, kind, denied, finished}
+use Rattle.serial.proofs.Slotted.{free-slot-usable, Emptied, clear-emptied}
+use Rattle.serial.proofs.Access.{Access, lt, ltx, st, number, kind, aborted-does, finish-does}
 use Rattle.serial.proofs.Normal.{entry-range, entry-of}
 
 -- both entries receive the data x in state c
@@ -216,16 +216,17 @@ module _ {d : Dims} (a : Access) (p : ℕ) (lp : p < d .processors) (w : ℕ) (l
       by : (y : Bool) → refuses d p w c (s .entries) ≡ y
           → Does d S (byAccess p w v) (pick y (busy d p c n s) (finish (number a) p i v (asked c n 0) (filled-to x t)))
       by true h =
-          denied a p lp w v lv O F (asked c n 1) (no-grant was fr fr′ (is-busy F p w (kind a) c (is-cycle (kind a)) h) (rollback-is F p lp))
+          aborted-does a p lp w v lv O F (asked c n 1)
+          (no-grant was fr fr′ (refused-busy F p w (kind a) c (is-cycle (kind a)) h) (rollback-is F p lp))
       by false h =
-          let g = by-leave F (kind a) c (is-cycle (kind a)) p w lp h in
+          let g = granted-served F (kind a) c (is-cycle (kind a)) p w lp h in
           let o = g .0 .own in
           let z = F .frame .size in
           let f = filling-code (kind a) in
           let gone = own-copy z p o w ∙ freed-none fr′ w (freed-none fr w was) in
           let q = got (g .0 .fit) p lp w lw (filling (kind a)) x (f .0) (f .1) (f .2) (g .0 .fit .frame .memory .small w) gone i li
           (o .entries i (omega arith) ∙ free-i) b (λ l. (free-b l .0, o .entries b (omega arith) ∙ free-b l .1)) in
-          finished a p lp w v lv O (q .fit) i li (q .tag) (q .word) (asked c n 0)
+          finish-does a p lp w v lv O (q .fit) i li (q .tag) (q .word) (asked c n 0)
           (misses was fr fr′ (g .1) (q .at-w) (backed (q .back) (q .back-is))
           (q .here ∙ ap (λ (r : _). tentative r x (q .back) false) (filling-is (kind a)))
           (ap (λ (m : List ℕ). getD m w 0) (q .memory-same)))
@@ -246,7 +247,7 @@ module _ {d : Dims} (a : Access) (p : ℕ) (lp : p < d .processors) (w : ℕ) (l
       t = clearEntry s p i
 
       E₁ : Emptied d p i s t
-      E₁ = emptied F p lp i li nt
+      E₁ = clear-emptied F p lp i li nt
 
       b : ℕ
       b = freeSlot (t .entries) p (d .entries) i
@@ -258,8 +259,8 @@ module _ {d : Dims} (a : Access) (p : ℕ) (lp : p < d .processors) (w : ℕ) (l
           (pick y (counted (writes (entryAt t p b)) (clearEntry t p b)) (counted 0 t) .after))
       by true h =
           let l = ltb-true b (d .entries) h in
-          let f = sought t p (d .entries) i l in
-          let E₂ = emptied (E₁ .fit) p lp b l (f .1) in
+          let f = free-slot-usable t p (d .entries) i l in
+          let E₂ = clear-emptied (E₁ .fit) p lp b l (f .1) in
           request-does a p lp w lw v lv O (E₂ .fit) was (E₁ .freed) (E₂ .freed) i li
           (E₂ .else i (omega (arith, F .frame .size .entries)) (λ z. f .0 (sym z)) ∙ E₁ .here) b (λ l′. (f .0, E₂ .here))
           (n + writes (entryAt s p i) + writes (entryAt t p b))
@@ -276,5 +277,5 @@ module _ {d : Dims} (a : Access) (p : ℕ) (lp : p < d .processors) (w : ℕ) (l
 
       by : (y : Bool) → ltb i (d .entries) ≡ y
           → Does d S (byAccess p w v) (pick y (missAt d (number a) p i w v n s) (gives Aborted (quiet n) (rollback d p s)))
-      by true h = let l = ltb-true i (d .entries) h in at-slot i l (sought s p (d .entries) (d .entries) l .1) n
-      by false h = denied a p lp w v lv O F (quiet n) (no-room was (rollback-is F p lp))
+      by true h = let l = ltb-true i (d .entries) h in at-slot i l (free-slot-usable s p (d .entries) (d .entries) l .1) n
+      by false h = aborted-does a p lp w v lv O F (quiet n) (no-room was (rollback-is F p lp))

@@ -33,7 +33,7 @@ use Rattle.serial.proofs.Frame.{EntryFits, Fits, fits-word}
 use Rattle.serial.proofs.Set.{Fit, entryOn, Memory, memory-same, back-at, back-here, set-slot, entry-fit}
 use Rattle.serial.proofs.Codes.{dirty-code, tagged-fits}
 use Rattle.serial.proofs.Find.{entry-fits, slot-at, slot-normal-at}
-use Rattle.serial.proofs.Slotted.{sought, Emptied, emptied}
+use Rattle.serial.proofs.Slotted.{free-slot-usable, Emptied, clear-emptied}
 
 -- an entry of a word of the machine
 pub entry-range : {W : ℕ} (x t w v : ℕ) → x < 4 → t < 4 → w < W → W ≤ 256 → v < valueEnd → InRange (entry x t w v)
@@ -169,7 +169,7 @@ module _ {d : Dims} {s : Caches} (F : Fit d s) (p : ℕ) (lp : p < d .processors
     sC = withEntry sB p b (entry (entryAt s p i .state) BACKUP w (entryAt s p i .«data»))
 
     EA : Emptied d p b s sA
-    EA = emptied F p lp b lb nt
+    EA = clear-emptied F p lp b lb nt
 
     same-i : entryAt sA p i ≡ entryAt s p i
     same-i = EA .else i (omega (arith, F .frame .size .entries)) (λ z. apart (sym z))
@@ -245,9 +245,9 @@ module _ {d : Dims} {s : Caches} (F : Fit d s) (p : ℕ) (lp : p < d .processors
             (inr (λ z. apart (sym z))) ∙
             to-here FA p lp w i li htA hwA MA x v lx held₀ lv
 
-  pub began : Began d p w i s (openNormal d p i s .after)
+  pub open-normal-began : Began d p w i s (openNormal d p i s .after)
   unfolding openNormal
-  began = by (ltb b (d .entries)) refl
+  open-normal-began = by (ltb b (d .entries)) refl
     where
       b : ℕ
       b = freeSlot (s .entries) p (d .entries) i
@@ -264,7 +264,7 @@ module _ {d : Dims} {s : Caches} (F : Fit d s) (p : ℕ) (lp : p < d .processors
           (counted (writes e) (entryOn s (writtenBack (s .memory) e) p i (withState (withTag e TENTATIVE) (alone (e .state))))) .after)
       by true h =
           let l = ltb-true b (d .entries) h in
-          let f = sought s p (d .entries) i l in
+          let f = free-slot-usable s p (d .entries) i l in
           subst⁻¹ (λ (es : List ℕ). Began d p w i s (caches (writtenBack (s .memory) (entryAt s p b)) (s .lines) es (s .flags)))
           (ap (λ (x : Entry). withCopy (withCopy (s .entries) p b x) p i (withTag e TENTATIVE)) (retagged BACKUP) ∙
           (ap (λ (x : Entry). withCopy (withCopy (s .entries) p b (entry (e .state) BACKUP w (e .«data»))) p i x) (retagged TENTATIVE) ∙

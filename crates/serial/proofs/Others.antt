@@ -90,7 +90,8 @@ opposes-is {d} {s} F q lq w k c C = go (ltb i (d .entries)) refl
     none-by reading h = sym (not-above (seen d s .copy w q) h)
     none-by owning h = sym h
 
-    some-by : (k : Kind) → Cycle k c → i < d .entries → either (takes c) (leb RESERVED (entryAt s q i .state)) ≡ Protocol.opposing k (seen d s .copy w q)
+    some-by : (k : Kind) → Cycle k c → i < d .entries
+        → either (takes c) (leb RESERVED (entryAt s q i .state)) ≡ Protocol.opposing k (seen d s .copy w q)
     some-by reading C l =
         let t = found-tag s q (d .entries) TENTATIVE w l in
         let f = tagged-fits (entry-fits F q lq i l) (λ z. omega arith) in
@@ -109,9 +110,9 @@ opposes-is {d} {s} F q lq w k c C = go (ltb i (d .entries)) refl
 
 -- T_READ and T_RFO: who refuses
 module _ {d : Dims} {s : Caches} (F : Fit d s) (p w : ℕ) (k : Kind) (c : ℕ) (C : Cycle k c) where
-  pub is-busy : refuses d p w c (s .entries) ≡ true → Busy k p w (seen d s)
+  pub refused-busy : refuses d p w c (s .entries) ≡ true → Busy k p w (seen d s)
   unfolding refuses firstOpposing
-  is-busy h =
+  refused-busy h =
       let l = ltb-true q (d .processors) h in
       let e = first-has (otherOpposes d p w c (s .entries)) 0 (d .processors) (omega arith) in
       busy q (eqb-false q p (not-true (eqb q p) (both-left (not (eqb q p)) (opposes d w c q (s .entries)) e)))
@@ -120,9 +121,10 @@ module _ {d : Dims} {s : Caches} (F : Fit d s) (p w : ℕ) (k : Kind) (c : ℕ) 
       q : ℕ
       q = firstFrom (otherOpposes d p w c (s .entries)) 0 (d .processors)
 
-  pub is-free : refuses d p w c (s .entries) ≡ false → (q : ℕ) → q < d .processors → q ≢ p → Protocol.opposing k (seen d s .copy w q) ≡ false
+  pub granted-unopposed : refuses d p w c (s .entries) ≡ false → (q : ℕ) → q < d .processors → q ≢ p
+      → Protocol.opposing k (seen d s .copy w q) ≡ false
   unfolding refuses firstOpposing
-  is-free h q l n =
+  granted-unopposed h q l n =
       sym (opposes-is F q l w k c C) ∙
       rest (eqb q p) (opposes d w c q (s .entries)) (ne-eqb q p n)
       (first-not (otherOpposes d p w c (s .entries)) 0 (d .processors) q (omega arith)

@@ -28,7 +28,7 @@ use Rattle.serial.proofs.Decode.{slotOf, lineOf, decoded, seen, read-ou
 use Rattle.serial.proofs.Set.{Fit, entryOn, lineOn}
 use Rattle.serial.proofs.Codes.{pick-no, slot-normal, slot-tentative, tagged-fits}
 use Rattle.serial.proofs.Find.{entry-fits, slot-at, no-regular, slot-normal-at, slot-tentative-at}
-use Rattle.serial.proofs.Others.{Cycle, Own, own-refl, own-trans, each, is-free, roll-others}
+use Rattle.serial.proofs.Others.{Cycle, Own, own-refl, own-trans, each, granted-unopposed, roll-others}
 use Rattle.serial.proofs.Snoop.{left, snooped-is, Asks, opposing-left, Asked, nothing-asked}
 use Rattle.serial.proofs.Snoop.{line-held, main, line-asked, normal-asked, tentative-asked}
 
@@ -178,16 +178,16 @@ module _ (d : Dims) (k : Kind) (c : ℕ) (C : Cycle k c) (p w : ℕ) (lp : p < d
           turned q s (snoopEntry d w c q (snoopLine (home d w) w c q s)) lq (eqb-false q p e) A
           (turn-asked (A .fit) q lq w k c C (A .spared q (eqb-false q p e)))
 
-  pub snooping : (s : Caches) → Asks d k p w s₀ s
+  pub snoop-asks : (s : Caches) → Asks d k p w s₀ s
       → Asks d k p w s₀ (snoop d p w c s) × Each (Snooped (snoops k) supplied p w) (d .processors) (seen d s) (seen d (snoop d p w c s))
   unfolding snoop
-  snooping s A =
+  snoop-asks s A =
       each (seen d) (Asks d k p w s₀) (Snooped (snoops k) supplied p w) (snoopOne d (home d w) p w c) (d .processors) snoop-one (d .processors)
       (omega arith) s A
 
 -- past the processors nobody has a copy
-pub beyond : (d : Dims) (s : Caches) (w q : ℕ) → d .processors ≤ q → seen d s .copy w q ≡ none
-beyond d s w q l =
+pub beyond-none : (d : Dims) (s : Caches) (w q : ℕ) → d .processors ≤ q → seen d s .copy w q ≡ none
+beyond-none d s w q l =
     look-empty (d .entries) (home d) (decoded d s .slot q) (decoded d s .line q)
     (λ i. read-out slotOf vacant (d .processors) (d .entries) (s .entries) q i l)
     (λ i. read-out lineOf blank (d .processors) (d .lines) (s .lines) q i l) w
@@ -200,25 +200,25 @@ pub record Served (d : Dims) (p : ℕ) (s s′ : Caches) : Type 0 where
 module _ {d : Dims} {s : Caches} (F : Fit d s) (k : Kind) (c : ℕ) (C : Cycle k c) (p w : ℕ) (lp : p < d .processors) where
   spare : ((q : ℕ) → q < d .processors → q ≢ p → Protocol.opposing k (seen d s .copy w q) ≡ false)
       → (q : ℕ) → q ≢ p → Protocol.opposing k (seen d s .copy w q) ≡ false
-  spare g q n = elim (decLt q (d .processors)) [ yes l ↦ g q l n | no l ↦ rw (beyond d s w q (omega arith)) (opposing-none k) ]
+  spare g q n = elim (decLt q (d .processors)) [ yes l ↦ g q l n | no l ↦ rw (beyond-none d s w q (omega arith)) (opposing-none k) ]
 
   -- T_READ and T_RFO, not refused
-  pub by-leave : refuses d p w c (s .entries) ≡ false → Served d p s (snoop d p w c s)
+  pub granted-served : refuses d p w c (s .entries) ≡ false → Served d p s (snoop d p w c s)
       × Granted k (d .processors) p w (seen d s) (seen d (snoop d p w c s))
-  by-leave h =
-      let free = spare (is-free F p w k c C h) in
-      let a = snooping d k c C p w lp s s (record { fit = F; spared = free; kept = own-refl }) in
+  granted-served h =
+      let free = spare (granted-unopposed F p w k c C h) in
+      let a = snoop-asks d k c C p w lp s s (record { fit = F; spared = free; kept = own-refl }) in
       (record { fit = a .0 .fit; own = a .0 .kept }, record { nobody = free; asks = a .1 })
 
 -- READ, RFO and WRITE
-pub by-force : {d : Dims} {s : Caches} → Fit d s → (k : Kind) (c : ℕ) → Cycle k c → (p w : ℕ) → p < d .processors
+pub plain-request-served : {d : Dims} {s : Caches} → Fit d s → (k : Kind) (c : ℕ) → Cycle k c → (p w : ℕ) → p < d .processors
     → Served d p s (plainRequest d p w c s) × Plainly k (d .processors) p w (seen d s) (seen d (plainRequest d p w c s))
 unfolding plainRequest
-by-force {d} {s} F k c C p w lp =
+plain-request-served {d} {s} F k c C p w lp =
     let r = roll-others d k c C p w lp s F in
     let near = cleared (Protocol.opposing k) (opposing-roll k) (d .processors) p w (r .1) in
     let free = spare (r .0 .fit) k c C p w lp (λ q l n. near .near q l n) in
-    let a = snooping d k c C p w lp s (rollOthers d p w c s) (record { fit = r .0 .fit; spared = free; kept = r .0 .own }) in
+    let a = snoop-asks d k c C p w lp s (rollOthers d p w c s) (record { fit = r .0 .fit; spared = free; kept = r .0 .own }) in
     (record { fit = a .0 .fit; own = a .0 .kept }, record { mid = seen d (rollOthers d p w c s); rolls = r .1; asks = a .1 })
 
 -- the five cycles

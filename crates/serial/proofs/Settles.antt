@@ -25,8 +25,8 @@ use Rattle.serial.proofs.Decode.{stateOf, decoded, seen}
 use Rattle.serial.proofs.Set.{Fit}
 use Rattle.serial.proofs.Codes.{dirty-code, slot-normal}
 use Rattle.serial.proofs.Find.{slot-at, has-regular, no-regular, has-normal}
-use Rattle.serial.proofs.Requests.{beyond}
-use Rattle.serial.proofs.Under.{behind, has-backup}
+use Rattle.serial.proofs.Requests.{beyond-none}
+use Rattle.serial.proofs.Under.{backup-behind, has-backup}
 
 -- the copy that settles w for q, the word's line first
 abbrev pub chosen : Dims → ℕ → Caches → ℕ → ℕ
@@ -136,7 +136,7 @@ module _ {d : Dims} {s : Caches} (F : Fit d s) (q : ℕ) (lq : q < d .processors
               (λ o. entry-off (f .0) (f .1) (inl (z .tagged)) (z .word) (on-dirty (entryAt s q (f .0) .state) (ap dirtyState (z .state) ∙ o)))
           go (tentative x y bare t) e r = refl
           go (tentative x y (backup a b) t) e r =
-              let f = behind F q lq w e in
+              let f = backup-behind F q lq w e in
               let z = f .is in
               off (dirtyState a)
               (λ o. entry-off (f .slot) (f .inside) (inr (z .tagged)) (z .word)
@@ -171,7 +171,7 @@ settled-in {d} {s} {M} F A w = by (ltb q (d .processors)) refl
         absurd (true≢false (sym (first-has (settles d (home d w) w (s .lines) (s .entries)) 0 (d .processors) (omega arith)) ∙ a))
 
     nobody : d .processors ≤ q → (r : ℕ) → owns (seen d s .copy w r) ≡ false
-    nobody l r = elim (decLt r (d .processors)) [ yes m ↦ one m (settling F r m w) | no m ↦ ap owns (beyond d s w r (omega arith)) ]
+    nobody l r = elim (decLt r (d .processors)) [ yes m ↦ one m (settling F r m w) | no m ↦ ap owns (beyond-none d s w r (omega arith)) ]
       where
         one : r < d .processors → Settling d s w r → owns (seen d s .copy w r) ≡ false
         one m (does a b c) =

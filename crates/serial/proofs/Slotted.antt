@@ -30,10 +30,10 @@ use Rattle.serial.proofs.Find.{entry-fits, slot-at}
 use Rattle.serial.proofs.Lined.{none-range, back-none}
 
 -- "never the slot taken in the same step", and no tentative entry
-pub sought : (s : Caches) (p n x : ℕ) → freeSlot (s .entries) p n x < n
+pub free-slot-usable : (s : Caches) (p n x : ℕ) → freeSlot (s .entries) p n x < n
     → (freeSlot (s .entries) p n x ≢ x) × (entryAt s p (freeSlot (s .entries) p n x) .tag ≢ TENTATIVE)
 unfolding freeSlot lowest
-sought s p n x l = by (ltb (low INVALID) n) refl (ltb (low NORMAL) n) refl l
+free-slot-usable s p n x l = by (ltb (low INVALID) n) refl (ltb (low NORMAL) n) refl l
   where
     low : ℕ → ℕ
     low tag = firstFrom (isFree (s .entries) p tag x) 0 n
@@ -60,9 +60,9 @@ pub record Emptied (d : Dims) (p i : ℕ) (s s′ : Caches) : Type 0 where
   pub here : entryAt s′ p i ≡ noEntry
   pub else : (j : ℕ) → j < 64 → j ≢ i → entryAt s′ p j ≡ entryAt s p j
 
-pub emptied : {d : Dims} {s : Caches} → Fit d s → (p : ℕ) → p < d .processors → (i : ℕ) → i < d .entries → entryAt s p i .tag ≢ TENTATIVE
+pub clear-emptied : {d : Dims} {s : Caches} → Fit d s → (p : ℕ) → p < d .processors → (i : ℕ) → i < d .entries → entryAt s p i .tag ≢ TENTATIVE
     → Emptied d p i s (clearEntry s p i)
-emptied {d} {s} F p lp i li nt = by (ℕ-discrete (e .tag) NORMAL) (ℕ-discrete (e .tag) BACKUP)
+clear-emptied {d} {s} F p lp i li nt = by (ℕ-discrete (e .tag) NORMAL) (ℕ-discrete (e .tag) BACKUP)
   where
     e : Entry
     e = entryAt s p i

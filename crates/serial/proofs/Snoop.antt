@@ -7,11 +7,11 @@ use native.Mathlib.Omega.{arith}
 use lib.Dec.{eqb}
 use lib.ListN.{getD}
 use borrow.Author.Tests.{eqb-true, eqb-false, not-true, leb-false}
-use Rattle.laws.specs.Choice.{pick, either, both-left, both-right}
+use Rattle.laws.specs.Choice.{pick, both-left, both-right}
 use Rattle.entry.specs.declared.Entry.{Entry}
 use Rattle.entry.specs.Numbers.{INVALID, VALID, RESERVED, DIRTY, NORMAL, TENTATIVE}
 use Rattle.entry.specs.Packing.{noEntry, InRange, same-entry}
-use Rattle.entry.specs.Entry.{withState, shared, snooped, takes}
+use Rattle.entry.specs.Entry.{withState, reservedOrDirty, shared, snooped, takes}
 use Rattle.rules.specs.declared.Dims.{Dims}
 use Rattle.rules.specs.State.{Caches, lineAt, entryAt, wordAt}
 use Rattle.rules.specs.Own.{home, holds}
@@ -39,13 +39,11 @@ left reading e = withState e VALID
 left owning e = noEntry
 
 shared-is : (e : Entry) → e .state < 4 → e .state ≢ INVALID → shared e ≡ withState e VALID
-shared-is e l n = by (eqb (e .state) RESERVED) (eqb (e .state) DIRTY) refl refl
+shared-is e l n = by (reservedOrDirty (e .state)) refl
   where
-    by : (x y : Bool) → eqb (e .state) RESERVED ≡ x → eqb (e .state) DIRTY ≡ y → pick (either x y) (withState e VALID) e ≡ withState e VALID
-    by true y hx hy = refl
-    by false true hx hy = refl
-    by false false hx hy =
-        same-entry e (withState e VALID) (omega (arith, eqb-false (e .state) RESERVED hx, eqb-false (e .state) DIRTY hy)) refl refl refl
+    by : (b : Bool) → reservedOrDirty (e .state) ≡ b → pick b (withState e VALID) e ≡ withState e VALID
+    by true h = refl
+    by false h = same-entry e (withState e VALID) (omega (arith, n, leb-false RESERVED (e .state) h)) refl refl refl
 
 pub snooped-is : (k : Kind) (c : ℕ) → Cycle k c → (e : Entry) → e .state < 4 → e .state ≢ INVALID → snooped c e ≡ left k e
 snooped-is reading c C e l n = ap (λ (b : Bool). pick b (shared e) (pick (takes c) noEntry e)) (C .share) ∙ shared-is e l n
@@ -189,7 +187,8 @@ module _ {d : Dims} {s : Caches} (F : Fit d s) (q : ℕ) (lq : q < d .processors
       turn : SlotSet (d .entries) (home d) q i (slotOf to) w (decoded d s) (decoded d t′)
       turn = set-slot (F .frame) entry-memory q i lq to rt li
 
-      asked-by : AllTidy (d .entries) (home d) (decoded d t′) → OnlyWord q w (seen d s) (seen d t′) → seen d t′ .copy w q ≡ snoops k (seen d s .copy w q)
+      asked-by : AllTidy (d .entries) (home d) (decoded d t′) → OnlyWord q w (seen d s) (seen d t′)
+          → seen d t′ .copy w q ≡ snoops k (seen d s .copy w q)
           → getD (writtenBack (s .memory) e) w 0 ≡ supplied (seen d s .copy w q) (wordAt s w) → Asked d k w q s t′
       asked-by T a c m = record {
         fit = entry-fit (F .frame) entry-memory q i lq to rt li ft T;

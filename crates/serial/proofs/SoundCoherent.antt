@@ -21,9 +21,9 @@ use Rattle.serial.proofs.Decode.{stateOf, seen}
 use Rattle.serial.proofs.Set.{Fit}
 use Rattle.serial.proofs.Codes.{above-code, dirty-code, tagged-fits}
 use Rattle.serial.proofs.Find.{entry-fits}
-use Rattle.serial.proofs.Requests.{beyond}
+use Rattle.serial.proofs.Requests.{beyond-none}
 use Rattle.serial.proofs.SoundFit.{sound-fit}
-use Rattle.serial.proofs.Under.{Main, mainState, mainData, exclusive-main, main-entry, tentative-entry, behind, below-code}
+use Rattle.serial.proofs.Under.{Main, mainState, mainData, exclusive-main, main-entry, tentative-entry, backup-behind, below-code}
 
 -- what a copy unpacks to is in range
 pub copy-range : {s : Caches} {p : ℕ} {e : Entry} → HasCopy s p e → InRange e
@@ -50,14 +50,15 @@ module _ {d : Dims} {s : Caches} (Z : Sound d s) (values : (w : ℕ) → wordAt 
   clean : (p w : ℕ) → p < d .processors → (k : View.Copy) → Main s p w k → dirtyState (mainState k) ≡ false → mainData k ≡ wordAt s w
   clean p w lp k m h =
       sym (m .value) ∙
-      (Z .clean p (m .copy) (eight p lp) (m .held-by) (m .held) (clean-code (m .copy .state) (ap dirtyState (m .state) ∙ h)) ∙ ap (wordAt s) (m .word))
+      (Z .clean p (m .copy) (eight p lp) (m .held-by) (m .held) (clean-code (m .copy .state) (ap dirtyState (m .state) ∙ h)) ∙
+      ap (wordAt s) (m .word))
 
   only : (w p q : ℕ) → exclusive (seen d s .copy w p) ≡ true → q ≢ p → seen d s .copy w q ≡ none
   only w p q x n = go (decLt p (d .processors)) (decLt q (d .processors))
     where
       go : Dec (p < d .processors) → Dec (q < d .processors) → seen d s .copy w q ≡ none
-      go (no l) r = absurd (true≢false (sym x ∙ ap exclusive (beyond d s w p (omega arith))))
-      go (yes l) (no r) = beyond d s w q (omega arith)
+      go (no l) r = absurd (true≢false (sym x ∙ ap exclusive (beyond-none d s w p (omega arith))))
+      go (yes l) (no r) = beyond-none d s w q (omega arith)
       go (yes l) (yes r) = one (seen d s .copy w p) refl x (seen d s .copy w q) refl
         where
           has-of : (k : View.Copy) → exclusive k ≡ true → has k ≡ true
@@ -85,7 +86,7 @@ module _ {d : Dims} {s : Caches} (Z : Sound d s) (values : (w : ℕ) → wordAt 
   equal w p = go (decLt p (d .processors))
     where
       go : Dec (p < d .processors) → agrees (seen d s .copy w p) (wordAt s w)
-      go (no l) = rw (beyond d s w p (omega arith)) tt
+      go (no l) = rw (beyond-none d s w p (omega arith)) tt
       go (yes l) = one (seen d s .copy w p) refl
         where
           one : (k : View.Copy) → seen d s .copy w p ≡ k → agrees k (wordAt s w)
@@ -96,7 +97,7 @@ module _ {d : Dims} {s : Caches} (Z : Sound d s) (values : (w : ℕ) → wordAt 
           one (tentative a b (backup r v) t) e = (
             (λ h. clean p w l (tentative a b (backup r v) t) (main p w l (tentative a b (backup r v) t) e refl) h),
             (λ h.
-                let x = behind F p l w e in
+                let x = backup-behind F p l w e in
                 let y = x .is in
                 sym (y .value) ∙
                 (Z .clean p (entryAt s p (x .slot)) (eight p l)
@@ -109,7 +110,7 @@ module _ {d : Dims} {s : Caches} (Z : Sound d s) (values : (w : ℕ) → wordAt 
   order w p = go (decLt p (d .processors))
     where
       go : Dec (p < d .processors) → ordered (seen d s .copy w p)
-      go (no l) = rw (beyond d s w p (omega arith)) tt
+      go (no l) = rw (beyond-none d s w p (omega arith)) tt
       go (yes l) = one (seen d s .copy w p) refl
         where
           one : (k : View.Copy) → seen d s .copy w p ≡ k → ordered k
@@ -118,7 +119,7 @@ module _ {d : Dims} {s : Caches} (Z : Sound d s) (values : (w : ℕ) → wordAt 
           one (normal a b) e = tt
           one (tentative a b bare t) e = tt
           one (tentative a b (backup r v) t) e =
-              let x = behind F p l w e in
+              let x = backup-behind F p l w e in
               let i = tentative-entry F p l w e in
               let li = F .frame .size .entries in
               let hb = tagged-fits (entry-fits F p l (x .slot) (x .inside)) (λ z. omega (arith, x .is .tagged)) .held in
@@ -133,7 +134,7 @@ module _ {d : Dims} {s : Caches} (Z : Sound d s) (values : (w : ℕ) → wordAt 
   live w p h = go (decLt p (d .processors))
     where
       go : Dec (p < d .processors) → Live (seen d s) p
-      go (no l) = absurd (true≢false (sym h ∙ ap isTentative (beyond d s w p (omega arith))))
+      go (no l) = absurd (true≢false (sym h ∙ ap isTentative (beyond-none d s w p (omega arith))))
       go (yes l) = one (seen d s .copy w p) refl h
         where
           one : (k : View.Copy) → seen d s .copy w p ≡ k → isTentative k ≡ true → Live (seen d s) p
@@ -146,14 +147,14 @@ module _ {d : Dims} {s : Caches} (Z : Sound d s) (values : (w : ℕ) → wordAt 
               (rw (lt-ltb p (d .processors) l, f .0), rw (lt-ltb p (d .processors) l, f .1))
 
   pub sound-coherent : Coherent (d .processors) (seen d s)
-  sound-coherent = record { only = only; equal = equal; order = order; live = live; within = beyond d s }
+  sound-coherent = record { only = only; equal = equal; order = order; live = live; within = beyond-none d s }
 
 -- a DIRTY tentative copy counts as stored to
 pub seen-coarse : {d : Dims} {s : Caches} → Fit d s → (w p : ℕ) → coarse (seen d s .copy w p)
 seen-coarse {d} {s} F w p = go (decLt p (d .processors))
   where
     go : Dec (p < d .processors) → coarse (seen d s .copy w p)
-    go (no l) = rw (beyond d s w p (omega arith)) tt
+    go (no l) = rw (beyond-none d s w p (omega arith)) tt
     go (yes l) = one (seen d s .copy w p) refl
       where
         one : (k : View.Copy) → seen d s .copy w p ≡ k → coarse k

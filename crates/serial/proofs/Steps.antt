@@ -1,21 +1,24 @@
 -- LT, LTX and ST whole, and every step by its number: each is a step of the theory, and leaves the state fit.
 use mathlib.Core.Path.{_≡_, refl, sym, _∙_}
-use mathlib.Core.Bool.{Bool, true, false, true≢false}
+use mathlib.Core.Bool.{Bool, true, false}
 use Prim.Native.Nat.{ℕ, zero, suc, _≤_, _<_}
 use native.Mathlib.Omega.{arith}
-use lib.Dec.{ltb, leb}
-use borrow.Author.Tests.{ltb-true, ltb-false, le-leb}
+use lib.Dec.{ltb}
+use borrow.Author.Tests.{ltb-true, ltb-false}
 use Rattle.laws.specs.Choice.{pick}
 use Rattle.entry.specs.declared.answer.Answer.the-variants.{Aborted}
-use Rattle.entry.specs.Numbers.{NORMAL, TENTATIVE, ST, INTERRUPT}
+use Rattle.entry.specs.declared.step.Step.{Step}
+use Rattle.entry.specs.Numbers.{NORMAL, TENTATIVE, INTERRUPT}
+use Rattle.entry.specs.Refusals.{accepted}
+use Rattle.entry.specs.Step.{step, usesWord}
 use Rattle.entry.specs.Answer.{noCycles}
 use Rattle.rules.specs.declared.Dims.{Dims}
 use Rattle.rules.specs.State.{Caches, gives, Counted, entryAt, TSTATUS}
 use Rattle.rules.specs.Own.{findEntry}
 use Rattle.rules.specs.Rollback.{begun}
-use Rattle.entry.specs.Refusals.{accepted, noSuchStep, noSuchProcessor, noSuchWord}
 use Rattle.rules.specs.Transact.{dropLine, hit, openNormal, miss, seek, transact}
-use Rattle.rules.specs.Step.{stepRefusal, takeStep}
+use Rattle.rules.specs.Step.{operandsRefusal, narrowed, takeStep}
+use Rattle.rules.proofs.Taken.{Taken, narrowed-same}
 use Rattle.theory.specs.View.{View}
 use Rattle.theory.specs.Protocol.{Opened, Starts, not-normal, opens, dead, isRegular}
 use Rattle.theory.proofs.Refine.{same-refl}
@@ -25,11 +28,11 @@ use Rattle.serial.proofs.Decode.{seen}
 use Rattle.serial.proofs.Set.{Fit}
 use Rattle.serial.proofs.Ends.{Does, begun-fit, begun-is, status-at, interrupt-does, validate-does, commit-does, abort-does}
 use Rattle.serial.proofs.Find.{is-none, found-tag, found-word, has-tentative, no-normal, no-tentative}
-use Rattle.serial.proofs.Lined.{Unlined, unlined}
+use Rattle.serial.proofs.Lined.{Unlined, drop-line-unlined}
 use Rattle.serial.proofs.Load.{load-does}
 use Rattle.serial.proofs.Store.{store-does}
 use Rattle.serial.proofs.Access.{Access, lt, ltx, st, number, hit-does}
-use Rattle.serial.proofs.Normal.{began}
+use Rattle.serial.proofs.Normal.{open-normal-began}
 use Rattle.serial.proofs.Miss.{miss-does}
 
 -- TSTATUS is true, and p has no regular copy
@@ -62,7 +65,7 @@ module _ {d : Dims} (a : Access) (p : ℕ) (lp : p < d .processors) (w : ℕ) (l
           (k .writes) 0
       by false hx true hy =
           let l = ltb-true j (d .entries) hy in
-          let g = began F p lp w j l (found-tag s p (d .entries) NORMAL w l) (found-word s p (d .entries) NORMAL w l) in
+          let g = open-normal-began F p lp w j l (found-tag s p (d .entries) NORMAL w l) (found-word s p (d .entries) NORMAL w l) in
           hit-does p lp w v lv (g .fit) (O (seen d (openNormal d p j s .after)) (opens (g .begun))) j l (g .tag) (g .word) a (k .writes)
           (openNormal d p j s .writes)
       by false hx false hy =
@@ -85,7 +88,7 @@ transact-does {d} {s} F a p lp w lw v lv = by (TSTATUS t p) refl
     status = sym (begun-is F p lp .status) ∙ status-at F₁ p lp
 
     U : Unlined d p w t (dropLine d p w t .after)
-    U = unlined F₁ p lp w
+    U = drop-line-unlined F₁ p lp w
 
     by : (b : Bool) → TSTATUS t p ≡ b
         → Does d (seen d s) (byAccess p w v) (pick b (seek d (number a) p w v (dropLine d p w t)) (gives Aborted noCycles t))
@@ -101,48 +104,31 @@ transact-does {d} {s} F a p lp w lw v lv = by (TSTATUS t p) refl
         }) (U .none-left)
     by false h = record { fit = F₁; step = dead (status ∙ h) (begun-is F p lp) }
 
--- what a step that is not refused says of its fields
-pub record Taken (d : Dims) (op p w : ℕ) : Type 0 where
-  pub step : op ≤ INTERRUPT
-  pub processor : p < d .processors
-  pub word : op ≤ ST → w < d .words
-
-pub taken : (d : Dims) (op p w : ℕ) → stepRefusal d op p w ≡ accepted → Taken d op p w
-unfolding stepRefusal
-taken d op p w e = by (ltb INTERRUPT op) (ltb p (d .processors)) (leb op ST) (ltb w (d .words)) refl refl refl refl e
-  where
-    by : (a b c f : Bool) → ltb INTERRUPT op ≡ a → ltb p (d .processors) ≡ b → leb op ST ≡ c → ltb w (d .words) ≡ f
-        → pick a noSuchStep (pick b (pick c (pick f accepted noSuchWord) accepted) noSuchProcessor) ≡ accepted → Taken d op p w
-    by true b c f ha hb hc hf e = absurd (omega (arith, e))
-    by false false c f ha hb hc hf e = absurd (omega (arith, e))
-    by false true true false ha hb hc hf e = absurd (omega (arith, e))
-    by false true true true ha hb hc hf e = record {
-      step = ltb-false INTERRUPT op ha;
-      processor = ltb-true p (d .processors) hb;
-      word = λ l. ltb-true w (d .words) hf;
-    }
-    by false true false f ha hb hc hf e = record {
-      step = ltb-false INTERRUPT op ha;
-      processor = ltb-true p (d .processors) hb;
-      word = λ l. absurd (true≢false (sym (le-leb op ST l) ∙ hc));
-    }
-
-pub step-does : {d : Dims} {s : Caches} → Fit d s → (op p w v : ℕ) → Taken d op p w → v < valueEnd
-    → Does d (seen d s) (shows op p w v) (takeStep d op p w v s)
+pub step-does : {d : Dims} {s : Caches} → Fit d s → (x : Step) → Taken d x → x .value < valueEnd → Does d (seen d s) (shows x) (takeStep d x s)
 unfolding takeStep shows
-step-does {d} {s} F op p w v t lv = go op (t .step) (t .word)
+step-does {d} {s} F x t lv = go (x .op) (t .number) (t .operands) (t .word) (narrowed-same (F .frame .size .words) t)
   where
+    p : ℕ
+    p = x .core
+
+    w : ℕ
+    w = x .word
+
+    v : ℕ
+    v = x .value
+
     lp : p < d .processors
     lp = t .processor
 
-    go : (op : ℕ) → op ≤ INTERRUPT → (op ≤ ST → w < d .words) → Does d (seen d s) (shows op p w v) (takeStep d op p w v s)
-    go zero l lw = load-does F p lp w (lw (omega arith))
-    go (suc zero) l lw = store-does F p lp w (lw (omega arith)) v lv
-    go (suc (suc zero)) l lw = transact-does F lt p lp w (lw (omega arith)) v lv
-    go (suc (suc (suc zero))) l lw = transact-does F ltx p lp w (lw (omega arith)) v lv
-    go (suc (suc (suc (suc zero)))) l lw = transact-does F st p lp w (lw (omega arith)) v lv
-    go (suc (suc (suc (suc (suc zero))))) l lw = commit-does F p lp
-    go (suc (suc (suc (suc (suc (suc zero)))))) l lw = abort-does F p lp
-    go (suc (suc (suc (suc (suc (suc (suc zero))))))) l lw = validate-does F p lp
-    go (suc (suc (suc (suc (suc (suc (suc (suc zero)))))))) l lw = interrupt-does F p lp
-    go (suc (suc (suc (suc (suc (suc (suc (suc (suc op))))))))) l lw = absurd (omega arith)
+    go : (op : ℕ) → op ≤ INTERRUPT → operandsRefusal d (step op p w v) ≡ accepted → (usesWord op ≡ true → w < d .words)
+        → (usesWord op ≡ true → narrowed w ≡ w) → Does d (seen d s) (shows (step op p w v)) (takeStep d (step op p w v) s)
+    go zero l o lw n = rw (o, n refl) (load-does F p lp w (lw refl))
+    go (suc zero) l o lw n = rw (o, n refl) (store-does F p lp w (lw refl) v lv)
+    go (suc (suc zero)) l o lw n = rw (o, n refl) (transact-does F lt p lp w (lw refl) v lv)
+    go (suc (suc (suc zero))) l o lw n = rw (o, n refl) (transact-does F ltx p lp w (lw refl) v lv)
+    go (suc (suc (suc (suc zero)))) l o lw n = rw (o, n refl) (transact-does F st p lp w (lw refl) v lv)
+    go (suc (suc (suc (suc (suc zero))))) l o lw n = rw o (commit-does F p lp)
+    go (suc (suc (suc (suc (suc (suc zero)))))) l o lw n = rw o (abort-does F p lp)
+    go (suc (suc (suc (suc (suc (suc (suc zero))))))) l o lw n = rw o (validate-does F p lp)
+    go (suc (suc (suc (suc (suc (suc (suc (suc zero)))))))) l o lw n = rw o (interrupt-does F p lp)
+    go (suc (suc (suc (suc (suc (suc (suc (suc (suc op))))))))) l o lw n = absurd (omega arith)

@@ -39,7 +39,7 @@ use Rattle.serial.proofs.Ends.{Does, rollback-fit, rollback-is}
 use Rattle.serial.proofs.Codes.{above-code}
 use Rattle.serial.proofs.Find.{home-in, is-none, found-tag, found-word, entry-fits, line-filled, has-regular}
 use Rattle.serial.proofs.Find.{no-regular, slot-normal-at, has-tentative, no-normal, no-tentative}
-use Rattle.serial.proofs.Requests.{Served, by-force, is-RFO, is-WRITE}
+use Rattle.serial.proofs.Requests.{Served, plain-request-served, is-RFO, is-WRITE}
 use Rattle.serial.proofs.Lined.{none-range, lined-at, lined-fit, lined-regular, own-line, own-copy, Evicted, evicts}
 use Rattle.serial.proofs.Load.{line-entry, line-range}
 
@@ -49,9 +49,9 @@ pub record Unheld-by (d : Dims) (p w : ℕ) (s s′ : Caches) : Type 0 where
   pub gives-up : Unheld p w (seen d s) (seen d s′)
   pub not-tentative : isTentative (seen d s′ .copy w p) ≡ false
 
-pub unheld : {d : Dims} {s : Caches} → Fit d s → (p : ℕ) → p < d .processors → (w : ℕ) → Unheld-by d p w s (Store.rollOwn d p w s)
+pub roll-own-unheld : {d : Dims} {s : Caches} → Fit d s → (p : ℕ) → p < d .processors → (w : ℕ) → Unheld-by d p w s (Store.rollOwn d p w s)
 unfolding Store.rollOwn
-unheld {d} {s} F p lp w = by (ltb i (d .entries)) refl
+roll-own-unheld {d} {s} F p lp w = by (ltb i (d .entries)) refl
   where
     i : ℕ
     i = findEntry (s .entries) p (d .entries) TENTATIVE w
@@ -77,10 +77,10 @@ pub record Bared (d : Dims) (p w : ℕ) (s s′ : Caches) : Type 0 where
   pub not-normal : isNormal (seen d s′ .copy w p) ≡ false
   pub not-tentative : isTentative (seen d s′ .copy w p) ≡ false
 
-pub bared : {d : Dims} {s : Caches} → Fit d s → (p : ℕ) → p < d .processors → (w : ℕ) → isTentative (seen d s .copy w p) ≡ false
+pub drop-normal-bared : {d : Dims} {s : Caches} → Fit d s → (p : ℕ) → p < d .processors → (w : ℕ) → isTentative (seen d s .copy w p) ≡ false
     → Bared d p w s (Store.dropNormal d p w s .after)
 unfolding Store.dropNormal
-bared {d} {s} F p lp w nt = by (ltb i (d .entries)) refl
+drop-normal-bared {d} {s} F p lp w nt = by (ltb i (d .entries)) refl
   where
     i : ℕ
     i = findEntry (s .entries) p (d .entries) NORMAL w
@@ -177,7 +177,7 @@ module _ {d : Dims} (p : ℕ) (lp : p < d .processors) (w : ℕ) (lw : w < d .wo
         s₂ = plainRequest d p w WRITE s
 
         bus : Served d p s s₂ × Plainly owning (d .processors) p w (seen d s) (seen d s₂)
-        bus = by-force F owning WRITE is-WRITE p w lp
+        bus = plain-request-served F owning WRITE is-WRITE p w lp
 
         F₂ : Fit d s₂
         F₂ = bus .0 .fit
@@ -222,7 +222,7 @@ module _ {d : Dims} (p : ℕ) (lp : p < d .processors) (w : ℕ) (lw : w < d .wo
       ev = evicts F p lp w gone
 
       bus : Served d p s₂ s₃ × Plainly owning (d .processors) p w (seen d s₂) (seen d s₃)
-      bus = by-force (ev .fit) owning RFO is-RFO p w lp
+      bus = plain-request-served (ev .fit) owning RFO is-RFO p w lp
 
       F₂ : Fit d s₃
       F₂ = bus .0 .fit
@@ -262,7 +262,7 @@ pub store-does : {d : Dims} {s : Caches} → Fit d s → (p : ℕ) → p < d .pr
     → Does d (seen d s) (byStore p w v) (Store.store d p w v s)
 unfolding Store.store
 store-does {d} {s} F p lp w lw v lv =
-    let u = unheld F p lp w in
-    let b = bared (u .fit) p lp w (u .not-tentative) in
+    let u = roll-own-unheld F p lp w in
+    let b = drop-normal-bared (u .fit) p lp w (u .not-tentative) in
     line-does p lp w lw v lv (b .fit) (u .gives-up) (b .clears) (Store.dropNormal d p w (Store.rollOwn d p w s) .writes) (b .not-normal)
     (b .not-tentative)

@@ -111,8 +111,9 @@ module _ {d : Dims} {s : Caches} (F : Fit d s) (p : ℕ) (lp : p < d .processors
       let z = slot-tentative (entryAt s p (r .0)) (sym (slot-at F p lp (r .0) (r .1)) ∙ r .2) in
       (r .0, r .1, z .0, z .1)
 
-  pub behind : {x : LineState} {y : ℕ} {r : LineState} {v : ℕ} {t : Bool} → seen d s .copy w p ≡ tentative x y (backup r v) t → Behind d s p w r v
-  behind {r = r} {v = v} e = by (backup r v) refl (tentative-seen (d .entries) (home d) (decoded d s .slot p) (decoded d s .line p) w e .3)
+  pub backup-behind : {x : LineState} {y : ℕ} {r : LineState} {v : ℕ} {t : Bool} → seen d s .copy w p ≡ tentative x y (backup r v) t
+      → Behind d s p w r v
+  backup-behind {r = r} {v = v} e = by (backup r v) refl (tentative-seen (d .entries) (home d) (decoded d s .slot p) (decoded d s .line p) w e .3)
     where
       by : (b : Back) → b ≡ backup r v → Backs (d .entries) (home d) (decoded d s .slot p) (decoded d s .line p) w b → Behind d s p w r v
       by b z (backed j l h q) =

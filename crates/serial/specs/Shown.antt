@@ -1,11 +1,13 @@
 -- Which events a step of document 01 shows, by its number and its answer.
 use mathlib.Core.List.{List, [], _∷_}
 use Prim.Native.Nat.{ℕ}
-use lib.Dec.{eqb, leb}
+use lib.Dec.{eqb}
 use Rattle.laws.specs.Choice.{pick}
 use Rattle.entry.specs.declared.answer.Answer.{Answer}
 use Rattle.entry.specs.declared.answer.Answer.the-variants.{Value, Done, Success, Failure, True, False, Aborted, Refused}
-use Rattle.entry.specs.Numbers.{LOAD, STORE, ST}
+use Rattle.entry.specs.declared.step.Step.{Step}
+use Rattle.entry.specs.Numbers.{LOAD, STORE}
+use Rattle.entry.specs.Step.{usesWord}
 use Rattle.theory.specs.Event.{Event, load, store, tread, twrite, commit, drop}
 
 -- LOAD
@@ -45,6 +47,12 @@ byEnd p False = drop p ∷ []
 byEnd p Aborted = []
 byEnd p (Refused n) = []
 
--- the step's number, processor, word and value
-unfoldable pub shows : ℕ → ℕ → ℕ → ℕ → Answer → List Event
-shows op p w v a = pick (eqb op LOAD) (byLoad p w a) (pick (eqb op STORE) (byStore p w v a) (pick (leb op ST) (byAccess p w v a) (byEnd p a)))
+-- the other steps that use a word are LT, LTX and ST
+unfoldable pub shows : Step → Answer → List Event
+shows x a =
+    let p = x .core in
+    let w = x .word in
+    let v = x .value in
+    pick (eqb (x .op) LOAD) (byLoad p w a)
+    (pick (eqb (x .op) STORE) (byStore p w v a)
+    (pick (usesWord (x .op)) (byAccess p w v a) (byEnd p a)))

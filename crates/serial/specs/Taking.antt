@@ -4,11 +4,12 @@ use mathlib.Core.List.{List, [], _∷_, _++_}
 use Prim.Native.Nat.{ℕ, _<_}
 use lib.ListN.{getD}
 use Rattle.entry.specs.declared.answer.Answer.{Answer}
+use Rattle.entry.specs.declared.step.Step.{Step}
 use Rattle.entry.specs.Answer.{refusalNumber}
+use Rattle.entry.specs.Refusals.{accepted}
 use Rattle.rules.specs.declared.Dims.{Dims}
 use Rattle.rules.specs.declared.Machine.{Machine}
 use Rattle.rules.specs.State.{Caches}
-use Rattle.entry.specs.Refusals.{accepted}
 use Rattle.rules.specs.Sound.{Sound}
 use Rattle.rules.specs.Step.{stepOf}
 use Rattle.theory.specs.Event.{Event}
@@ -32,25 +33,22 @@ abbrev pub start : List ℕ → Plain
 start memory = unlogged (λ w. getD memory w 0)
 
 -- a step, and what it answered
-pub record Did : Type 0 where
-  pub op : ℕ
-  pub core : ℕ
-  pub word : ℕ
-  pub value : ℕ
+pub record StepAnswer : Type 0 where
+  pub step : Step
   pub answer : Answer
 
-abbrev pub did : ℕ → ℕ → ℕ → ℕ → Answer → Did
-did op core word value answer = record { op = op; core = core; word = word; value = value; answer = answer }
+abbrev pub stepAnswer : Step → Answer → StepAnswer
+stepAnswer x a = record { step = x; answer = a }
 
-abbrev pub answerOf : Machine → ℕ → ℕ → ℕ → ℕ → Answer
-answerOf m op core word value = stepOf m op core word value .told .answer
+abbrev pub answerTo : Machine → Step → Answer
+answerTo m x = stepOf m x .told .answer
 
 -- the machine of demand 2 took these steps one after the other, and refused none
-pub data Took : Machine → List Did → Machine → Type 0 where
+pub data Took : Machine → List StepAnswer → Machine → Type 0 where
   nothing : {m : Machine} → Took m [] m
-  then : {m m′ : Machine} {ds : List Did} (op core word value : ℕ) → value < valueEnd → refusalNumber (answerOf m op core word value) ≡ accepted
-      → Took (stepOf m op core word value .machine) ds m′ → Took m (did op core word value (answerOf m op core word value) ∷ ds) m′
+  then : {m m′ : Machine} {xs : List StepAnswer} (x : Step) → x .value < valueEnd → refusalNumber (answerTo m x) ≡ accepted
+      → Took (stepOf m x .machine) xs m′ → Took m (stepAnswer x (answerTo m x) ∷ xs) m′
 
-unfoldable pub events : List Did → List Event
+unfoldable pub events : List StepAnswer → List Event
 events [] = []
-events (x ∷ ds) = shows (x .op) (x .core) (x .word) (x .value) (x .answer) ++ events ds
+events (x ∷ xs) = shows (x .step) (x .answer) ++ events xs

@@ -2,7 +2,7 @@ use mathlib.Core.Path.{_∙_, sym}
 use Rattle.rules.specs.Making.{dims}
 use borrow.Author.Tests.{eq-eqb, ne-eqb}
 use Rattle.rules.specs.Making.{makeOf}
-use Rattle.machine.proofs.Words.{make-fit}
+use Rattle.machine.proofs.Fits.{make-fit}
 use borrow.Author.Needs.{needs}
 use Rattle.machine.proofs.make.Statement.{statement}
 use Rattle.machine.proofs.make.Tie as tie

@@ -4,7 +4,7 @@ use mathlib.Core.Path.{_≡_, _∙_, sym}
 use native.Mathlib.Omega.{arith}
 use borrow.Author.Tests.{not-true, not-false}
 use Rattle.rules.specs.Step.{settledOf}
-use Rattle.machine.proofs.Words.{sound-fit}
+use Rattle.machine.proofs.Fits.{sound-fit}
 use borrow.Author.Needs.{needs}
 use Rattle.machine.proofs.settled.Statement.{statement}
 use Rattle.machine.proofs.settled.Tie as tie

@@ -1,7 +1,5 @@
-use mathlib.Core.Path.{_∙_, sym}
 use borrow.Author.Tests.{not-true, not-false}
 use Rattle.rules.specs.Run.{runOf}
-use Rattle.machine.proofs.Words.{sound-fit}
 use borrow.Author.Needs.{needs}
 use Rattle.runs.proofs.run.Statement.{statement}
 use Rattle.runs.proofs.run.Tie as tie
@@ -53,12 +51,7 @@ returns-2 c =
     )
 
 run-sound-requires : tie.Need-run-sound-requires
-run-sound-requires c κs =
-    let moved = c .before .before .before .before .before .before .before .before .before .before .before .before in
-    let ok = moved .before .before .before .before .before in
-    let c1 = ok .before .before .before .before .before .before .before .before .before .before in
-    let c2 = c1 .before in
-    sound-fit _ _ (sym (c2 .sound .ensures) ∙ not-false (c2 .sound .result) (c1 .if1 .left)) .words
+run-sound-requires c κs = search needs
 
 same-length-9 : tie.Need-same-length-9
 same-length-9 c = search needs

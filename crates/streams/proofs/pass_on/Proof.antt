@@ -11,17 +11,17 @@ returns c = search needs
 returns-2 : tie.Need-returns-2
 returns-2 c = search needs
 
-slice-aggregate-write-all : tie.Need-slice-aggregate-write-all
-slice-aggregate-write-all c =
+slice-aggregate-write-piece : tie.Need-slice-aggregate-write-piece
+slice-aggregate-write-piece c =
     let c1 = c .before .before .before .before in
     let l = length-take (c1 .args .used) (c1 .args .out .now) in sym (l ∙ omega (arith, c .before .if2 .left))
 
-write-all-requires : tie.Need-write-all-requires
-write-all-requires c κs = search needs
+write-piece-requires : tie.Need-write-piece-requires
+write-piece-requires c κs = search needs
 
 returns-3 : tie.Need-returns-3
 returns-3 c = search needs
 
 pub pass-on-spec : {M : Type 1} → statement M
 pass-on-spec =
-    tie.close (tie.spec returns returns-2 slice-aggregate-write-all write-all-requires returns-3)
+    tie.close (tie.spec returns returns-2 slice-aggregate-write-piece write-piece-requires returns-3)

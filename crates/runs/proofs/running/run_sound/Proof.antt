@@ -1,13 +1,13 @@
 use Rattle.runs.proofs.Turns.{SameLengths, same-refl, written-same, ran-out, halts, takes-turn}
 use Prim.Native.Nat.{_≤_, _-_}
-use mathlib.Core.Path.{_≡_, _∙_, sym}
+use mathlib.Core.Path.{_≡_, refl}
 use native.Mathlib.Nat.{sub-zero}
 use native.Mathlib.Omega.{arith}
+use borrow.Author.Needs.{needs}
 use Rattle.laws.specs.Until.{untilRange}
 use lib.ListN.{length}
 use Rattle.rules.specs.State.{caches}
 use Rattle.rules.specs.Run.{steps, columns, carried, stopsAt, turn, runSound}
-use borrow.Author.Needs.{needs}
 use Rattle.runs.proofs.running.run_sound.Statement.{statement}
 use Rattle.runs.proofs.running.run_sound.Tie as tie
 
@@ -29,107 +29,63 @@ abbrev μ-loop : tie.MeasureT-loop
 loop-holds : tie.Need-loop-holds Inv-loop μ-loop
 loop-holds c = (search needs, rw sub-zero, same-refl _)
 
-byte-at-requires : tie.Need-byte-at-requires Inv-loop μ-loop
-byte-at-requires c κs = search needs
+step-at-requires : tie.Need-step-at-requires Inv-loop μ-loop
+step-at-requires c κs = search needs
 
-byte-at-requires-2 : tie.Need-byte-at-requires-2 Inv-loop μ-loop
-byte-at-requires-2 c κs = search needs
+take-step-requires : tie.Need-take-step-requires Inv-loop μ-loop
+take-step-requires c κs = search needs
 
-cast-p : tie.Need-cast-p Inv-loop μ-loop
-cast-p c = search needs
-
-number-at-requires : tie.Need-number-at-requires Inv-loop μ-loop
-number-at-requires c κs = search needs
-
-step-refusal-requires : tie.Need-step-refusal-requires Inv-loop μ-loop
-step-refusal-requires c κs = search needs
+refusal-requires : tie.Need-refusal-requires Inv-loop μ-loop
+refusal-requires c κs = search needs
 
 same-length : tie.Need-same-length Inv-loop μ-loop
-same-length c = c .before .before .before .before .before .before .loop .inv .2 .answers
+same-length c = c .before .before .before .before .before .before .before .before .before .loop .inv .2 .answers
 
 same-length-2 : tie.Need-same-length-2 Inv-loop μ-loop
-same-length-2 c = c .before .before .before .before .before .before .loop .inv .2 .results
+same-length-2 c = c .before .before .before .before .before .before .before .before .before .loop .inv .2 .results
 
 same-length-3 : tie.Need-same-length-3 Inv-loop μ-loop
-same-length-3 c = c .before .before .before .before .before .before .loop .inv .2 .read
+same-length-3 c = c .before .before .before .before .before .before .before .before .before .loop .inv .2 .read
 
 same-length-4 : tie.Need-same-length-4 Inv-loop μ-loop
-same-length-4 c = c .before .before .before .before .before .before .loop .inv .2 .rfo
+same-length-4 c = c .before .before .before .before .before .before .before .before .before .loop .inv .2 .rfo
 
 same-length-5 : tie.Need-same-length-5 Inv-loop μ-loop
-same-length-5 c = c .before .before .before .before .before .before .loop .inv .2 .write
+same-length-5 c = c .before .before .before .before .before .before .before .before .before .loop .inv .2 .write
 
 same-length-6 : tie.Need-same-length-6 Inv-loop μ-loop
-same-length-6 c = c .before .before .before .before .before .before .loop .inv .2 .t-read
+same-length-6 c = c .before .before .before .before .before .before .before .before .before .loop .inv .2 .t-read
 
 same-length-7 : tie.Need-same-length-7 Inv-loop μ-loop
-same-length-7 c = c .before .before .before .before .before .before .loop .inv .2 .t-rfo
+same-length-7 c = c .before .before .before .before .before .before .before .before .before .loop .inv .2 .t-rfo
 
 same-length-8 : tie.Need-same-length-8 Inv-loop μ-loop
-same-length-8 c = c .before .before .before .before .before .before .loop .inv .2 .busy
+same-length-8 c = c .before .before .before .before .before .before .before .before .before .loop .inv .2 .busy
 
 returns : tie.Need-returns Inv-loop μ-loop
 unfolding runSound
-returns c =
-    let c1 = c .before .before .before in
-    let c2 = c1 .before in
-    let c3 = c2 .before in
-    let c4 = c3 .before in
-    let c5 = c4 .before .before .before .before .before .before .before .before .before .before .before .before .before in
-    let x = c5 .args in halts (x .d) (steps (x .ops .now) (x .cores .now) (x .words .now) (x .values .now)) (c4 .loop .i)
-    (length (x .ops .now)) _ _ (c4 .loop .inv .1) (omega (arith, c3 .loop-test)) _ _ _ _ (c2 .byte-at .ensures) (c1 .byte-at2 .ensures)
-    (c .before .before .number-at .ensures) (c .before .step-refusal .ensures) (c .if1 .taken)
-
-number-at-requires-2 : tie.Need-number-at-requires-2 Inv-loop μ-loop
-number-at-requires-2 c κs = search needs
-
-one-step-requires : tie.Need-one-step-requires Inv-loop μ-loop
-one-step-requires c κs =
-    let c1 = c .before .before .before .before .before in
-    let c2 = c1 .before in
-    let reached = c2 .before .before .before .before .before in
-    let start = reached .before .before .before .before .before .before .before .before .before .before .before .before .before in
-    (sym (c2 .step-refusal .ensures) ∙ c1 .if1 .left, start .pre)
+returns c = let x = c .before .before .before .before .before .before .before .before .before .before .before .before .before .before .before .before .before .before .before .before .before .before .args in
+    halts (x .d) (steps (x .ops .now) (x .cores .now) (x .words .now) (x .values .now)) (c .before .before .before .before .before .before .before .before .before .loop .i) (length (x .ops .now)) _ _ (c .before .before .before .before .before .before .before .before .before .loop .inv .1)
+    (omega (arith, c .before .before .before .before .before .before .before .before .loop-test)) (c .before .before .before .before .before .before .before .step-at .result) (c .before .before .before .before .before .before .before .step-at .ensures) (c .before .before .take-step .result) _ (c .before .before .take-step .ensures) (c .before .refusal .result)
+    (c .before .refusal .ensures) (c .if1 .taken) _ refl
 
 write-answer-requires : tie.Need-write-answer-requires Inv-loop μ-loop
 write-answer-requires c κs = search needs
 
 add-i : tie.Need-add-i Inv-loop μ-loop
-add-i c =
-    let written = c .before .before .before .before .before .before .before .before .before .before .before .before .before .before .before .before in
-    let stepped = written .before .before .before .before .before .before .before .before .before in
-    let inside = stepped .before .before .before .before .before .before .before .before .before .before .before in
-    let start = inside .before .before .before .before .before .before .before .before .before .before .before .before .before .before in
-    omega (arith, inside .loop-test, start .good)
+add-i c = omega (arith, c .before .before .before .before .before .before .before .before .before .before .before .before .before .before .before .before .before .before .before .before .before .before .before .before .before .before .before .before .before .before .before .before .before .loop-test, c .before .before .before .before .before .before .before .before .before .before .before .before .before .before .before .before .before .before .before .before .before .before .before .before .before .before .before .before .before .before .before .before .before .before .before .before .before .before .before .before .before .before .before .before .before .before .before .good)
 
 loop-less : tie.Need-loop-less Inv-loop μ-loop
-loop-less c =
-    let written = c .before .before .before .before .before .before .before .before .before .before .before .before .before .before .before .before in
-    let stepped = written .before .before .before .before .before .before .before .before .before in
-    let inside = stepped .before .before .before .before .before .before .before .before .before .before .before in
-    omega (arith, inside .loop-test)
+loop-less c = omega (arith, c .before .before .before .before .before .before .before .before .before .before .before .before .before .before .before .before .before .before .before .before .before .before .before .before .before .before .before .before .before .before .before .before .before .loop-test)
 
 loop-again : tie.Need-loop-again Inv-loop μ-loop
-loop-again c =
-    let c1 = c .before .before .before .before .before .before .before .before .before .before .before .before .before .before .before .before in
-    let c2 = c1 .before .before .before .before .before .before .before .before .before in
-    let c3 = c2 .before .before .before .before .before in
-    let c4 = c3 .before in
-    let c5 = c4 .before in
-    let c6 = c5 .before in
-    let c7 = c6 .before in
-    let c8 = c7 .before in
-    let c9 = c8 .before in
-    let c10 = c9 .before in
-    let c11 = c10 .before .before .before .before .before .before .before .before .before .before .before .before .before in
-    let x = c11 .args in (
-      omega (arith, c9 .loop-test),
-      takes-turn (x .d) (steps (x .ops .now) (x .cores .now) (x .words .now) (x .values .now)) (c10 .loop .i) (length (x .ops .now)) _ _
-          (c10 .loop .inv .1) (omega (arith, c9 .loop-test)) _ _ _ _ (c8 .byte-at .ensures) (c7 .byte-at2 .ensures) (c6 .number-at .ensures)
-          (c5 .step-refusal .ensures) (c4 .if1 .left) _ (c2 .one-step .result) _ _ (c3 .number-at2 .ensures) (c2 .one-step .ensures)
-          (c1 .write-answer .ensures),
-      written-same _ _ _ (c10 .loop .i) (c2 .one-step .result) (c1 .write-answer .ensures) (c10 .loop .inv .2),
-    )
+loop-again c = let x = c .before .before .before .before .before .before .before .before .before .before .before .before .before .before .before .before .before .before .before .before .before .before .before .before .before .before .before .before .before .before .before .before .before .before .before .before .before .before .before .before .before .before .before .before .before .before .before .args in (
+  omega (arith, c .before .before .before .before .before .before .before .before .before .before .before .before .before .before .before .before .before .before .before .before .before .before .before .before .before .before .before .before .before .before .before .before .before .loop-test),
+  takes-turn (x .d) (steps (x .ops .now) (x .cores .now) (x .words .now) (x .values .now)) (c .before .before .before .before .before .before .before .before .before .before .before .before .before .before .before .before .before .before .before .before .before .before .before .before .before .before .before .before .before .before .before .before .before .before .loop .i) (length (x .ops .now)) _ _ (c .before .before .before .before .before .before .before .before .before .before .before .before .before .before .before .before .before .before .before .before .before .before .before .before .before .before .before .before .before .before .before .before .before .before .loop .inv .1)
+      (omega (arith, c .before .before .before .before .before .before .before .before .before .before .before .before .before .before .before .before .before .before .before .before .before .before .before .before .before .before .before .before .before .before .before .before .before .loop-test)) (c .before .before .before .before .before .before .before .before .before .before .before .before .before .before .before .before .before .before .before .before .before .before .before .before .before .before .before .before .before .before .before .before .step-at .result) (c .before .before .before .before .before .before .before .before .before .before .before .before .before .before .before .before .before .before .before .before .before .before .before .before .before .before .before .before .before .before .before .before .step-at .ensures) (c .before .before .before .before .before .before .before .before .before .before .before .before .before .before .before .before .before .before .before .before .before .before .before .before .before .before .before .take-step .result) _ (c .before .before .before .before .before .before .before .before .before .before .before .before .before .before .before .before .before .before .before .before .before .before .before .before .before .before .before .take-step .ensures) (c .before .before .before .before .before .before .before .before .before .before .before .before .before .before .before .before .before .before .before .before .before .before .before .before .before .before .refusal .result)
+      (c .before .before .before .before .before .before .before .before .before .before .before .before .before .before .before .before .before .before .before .before .before .before .before .before .before .before .refusal .ensures) (c .before .before .before .before .before .before .before .before .before .before .before .before .before .before .before .before .before .before .before .before .before .before .before .before .before .if1 .left) _ (c .before .before .before .before .before .before .before .before .before .before .before .before .before .before .before .before .write-answer .ensures),
+  written-same _ _ _ (c .before .before .before .before .before .before .before .before .before .before .before .before .before .before .before .before .before .before .before .before .before .before .before .before .before .before .before .before .before .before .before .before .before .before .loop .i) (c .before .before .before .before .before .before .before .before .before .before .before .before .before .before .before .before .before .before .before .before .before .before .before .before .before .before .before .take-step .result) (c .before .before .before .before .before .before .before .before .before .before .before .before .before .before .before .before .write-answer .ensures) (c .before .before .before .before .before .before .before .before .before .before .before .before .before .before .before .before .before .before .before .before .before .before .before .before .before .before .before .before .before .before .before .before .before .before .loop .inv .2),
+)
 
 same-length-9 : tie.Need-same-length-9 Inv-loop μ-loop
 same-length-9 c = c .before .loop .inv .2 .answers
@@ -157,10 +113,9 @@ same-length-16 c = c .before .loop .inv .2 .busy
 
 returns-2 : tie.Need-returns-2 Inv-loop μ-loop
 unfolding runSound
-returns-2 c =
-    let c1 = c .before .before .before .before .before .before .before .before .before .before .before .before .before .before in
-    let x = c1 .args in ran-out (x .d) (steps (x .ops .now) (x .cores .now) (x .words .now) (x .values .now)) (c .before .loop .i)
-    (length (x .ops .now)) _ _ (c .before .loop .inv .1) (omega (arith, c .loop-test))
+returns-2 c = let x = c .before .before .before .before .before .before .before .before .before .before .before .before .before .before .args in
+    ran-out (x .d) (steps (x .ops .now) (x .cores .now) (x .words .now) (x .values .now)) (c .before .loop .i) (length (x .ops .now)) _ _ (c .before .loop .inv .1)
+    (omega (arith, c .loop-test)) (c .before .loop .inv .0)
 
 pub run-sound-spec : {M : Type 1} → statement M
 run-sound-spec =
@@ -169,11 +124,9 @@ run-sound-spec =
     Inv-loop
     μ-loop
     loop-holds
-    byte-at-requires
-    byte-at-requires-2
-    cast-p
-    number-at-requires
-    step-refusal-requires
+    step-at-requires
+    take-step-requires
+    refusal-requires
     same-length
     same-length-2
     same-length-3
@@ -183,8 +136,6 @@ run-sound-spec =
     same-length-7
     same-length-8
     returns
-    number-at-requires-2
-    one-step-requires
     write-answer-requires
     add-i
     loop-less

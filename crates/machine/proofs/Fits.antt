@@ -1,4 +1,4 @@
--- A step that is not refused uses a word below 256, or none, so that the word's low eight bits are enough.
+-- What refusals that pass say of the dimensions.
 use mathlib.Core.Path.{_≡_, refl}
 use mathlib.Core.Bool.{Bool, true, false, false≢true}
 use mathlib.Core.List.{List}
@@ -14,34 +14,6 @@ use Rattle.rules.specs.State.{Caches}
 use Rattle.rules.specs.Making.{within, powerOfTwo, dimsRefusal, makeRefusal}
 use Rattle.entry.specs.Refusals.{accepted, badMemory}
 use Rattle.rules.specs.SoundTest.{lengthsOk, soundOf}
-use Rattle.rules.specs.Step.{stepRefusal, takeStep}
-
-used : (a b c e : Bool) → _≡_ {A = ℕ} (pick a 6 (pick b (pick c (pick e 0 8) 0) 7)) 0 → c ≡ true → e ≡ true
-used true b c e h t = absurd (omega (arith, h))
-used false false c e h t = absurd (omega (arith, h))
-used false true false e h t = absurd (false≢true t)
-used false true true false h t = absurd (omega (arith, h))
-used false true true true h t = refl
-
-pub low-word : (d : Dims) (op p word v : ℕ) (s : Caches) → stepRefusal d op p word ≡ accepted → d .words ≤ 256 →
-    takeStep d op p (word % 256) v s ≡ takeStep d op p word v s
-unfolding stepRefusal takeStep
-low-word d op p word v s h f = by (leb op ST) refl
-  where
-    by : (b : Bool) → leb op ST ≡ b → takeStep d op p (word % 256) v s ≡ takeStep d op p word v s
-    by true t =
-        let l = ltb-true word (d .words) (used (ltb INTERRUPT op) (ltb p (d .processors)) (leb op ST) (ltb word (d .words)) h t) in
-        let e : word % 256 ≡ word = omega arith in
-        rw e
-    by false t =
-        let l = leb-false op ST t in
-        rw (
-          ne-eqb op LOAD (λ z. omega arith),
-          ne-eqb op STORE (λ z. omega arith),
-          ne-eqb op LT (λ z. omega arith),
-          ne-eqb op LTX (λ z. omega arith),
-          ne-eqb op ST (λ z. omega arith),
-        )
 
 -- what dimensions that are accepted say
 pub record Fit (d : Dims) : Type 0 where
