@@ -1,4 +1,4 @@
-mod Back
+pub mod Back
 mod Copied
-pub mod Lengths
+mod Tested
 pub mod Unique

@@ -1,80 +1,130 @@
-// Whole arrays copied out of and into what is lent. A slice of another length is copied by no one: the lengths are tested first.
+// Parts of the array copied into a machine's arrays, and back.
 
+use entry::answer::Answered;
 use rules::Copies;
 use rules::Flags;
 use rules::Memory;
 ghost use mathlib.Core.Path.{_≡_};
+ghost use mathlib.Core.Bool.{true};
+ghost use Prim.Native.Nat.{_+_, _≤_};
 ghost use lib.ListN.{length};
+ghost use lib.Seq.{sets};
+ghost use Rattle.rules.specs.State.{trueFlag};
 ghost use Rattle.rules.specs.Lent.{before, after};
+ghost use Rattle.exports.specs.Array.{flagsFrom, memoryFrom, linesFrom, part, noneAbove, mostValue};
+ghost use Rattle.exports.specs.Handed.{toldBy};
 
-pub(crate) fn memory_of(lent: &[u32]) -> Memory
-    requires { ⌜ length (now lent) ≡ 256 ⌝ }
-    ensures { λ r. ⌜ r ≡ before lent ⌝ }
+fn narrow_value(x: u64) -> u32
+    requires { ⌜ x ≤ mostValue ⌝ }
+    ensures { λ r. ⌜ r ≡ x ⌝ }
+{
+    x as u32
+}
+
+fn narrow_flag(x: u64) -> u8
+    requires { ⌜ x ≤ trueFlag ⌝ }
+    ensures { λ r. ⌜ r ≡ x ⌝ }
+{
+    x as u8
+}
+
+fn wide_value(x: u32) -> u64
+    ensures { λ r. ⌜ r ≡ x ⌝ }
+{
+    x as u64
+}
+
+fn wide_flag(x: u8) -> u64
+    ensures { λ r. ⌜ r ≡ x ⌝ }
+{
+    x as u64
+}
+
+pub(crate) fn memory_of(state: &[u64; 2048]) -> Memory
+    requires { ⌜ noneAbove mostValue memoryFrom linesFrom (now state) ≡ true ⌝ }
+    ensures { λ r. ⌜ r ≡ part memoryFrom 256 (before state) ⌝ }
 {
     let mut whole = [0u32; 256];
     let mut i: usize = 0;
     while i < 256 {
-        whole[i] = lent[i];
+        whole[i] = narrow_value(state[256 + i]);
         i += 1;
     }
     whole
 }
 
-pub(crate) fn copies_of(lent: &[u64]) -> Copies
-    requires { ⌜ length (now lent) ≡ 512 ⌝ }
-    ensures { λ r. ⌜ r ≡ before lent ⌝ }
-{
-    let mut whole = [0u64; 512];
-    let mut i: usize = 0;
-    while i < 512 {
-        whole[i] = lent[i];
-        i += 1;
-    }
-    whole
-}
-
-pub(crate) fn flags_of(lent: &[u8]) -> Flags
-    requires { ⌜ length (now lent) ≡ 16 ⌝ }
-    ensures { λ r. ⌜ r ≡ before lent ⌝ }
+pub(crate) fn flags_of(state: &[u64; 2048]) -> Flags
+    requires { ⌜ noneAbove trueFlag flagsFrom 32 (now state) ≡ true ⌝ }
+    ensures { λ r. ⌜ r ≡ part flagsFrom 16 (before state) ⌝ }
 {
     let mut whole = [0u8; 16];
     let mut i: usize = 0;
     while i < 16 {
-        whole[i] = lent[i];
+        whole[i] = narrow_flag(state[16 + i]);
         i += 1;
     }
     whole
 }
 
-pub(crate) fn put_memory(lent: &mut [u32], whole: &Memory)
-    requires { ⌜ (length (now lent) ≡ 256) × (length (now whole) ≡ 256) ⌝ }
-    ensures { λ r. ⌜ after lent ≡ before whole ⌝ }
+pub(crate) fn copies_of(state: &[u64; 2048], from: usize) -> Copies
+    requires { ⌜ from + 512 ≤ 2048 ⌝ }
+    ensures { λ r. ⌜ r ≡ part from 512 (before state) ⌝ }
+{
+    let mut whole = [0u64; 512];
+    let mut i: usize = 0;
+    while i < 512 {
+        whole[i] = state[from + i];
+        i += 1;
+    }
+    whole
+}
+
+pub(crate) fn put_memory(state: &mut [u64; 2048], whole: &Memory)
+    requires { ⌜ length (now whole) ≡ 256 ⌝ }
+    ensures { λ r. ⌜ after state ≡ sets (before state) memoryFrom (before whole) ⌝ }
 {
     let mut i: usize = 0;
     while i < 256 {
-        lent[i] = whole[i];
+        state[256 + i] = wide_value(whole[i]);
         i += 1;
     }
 }
 
-pub(crate) fn put_copies(lent: &mut [u64], whole: &Copies)
-    requires { ⌜ (length (now lent) ≡ 512) × (length (now whole) ≡ 512) ⌝ }
-    ensures { λ r. ⌜ after lent ≡ before whole ⌝ }
-{
-    let mut i: usize = 0;
-    while i < 512 {
-        lent[i] = whole[i];
-        i += 1;
-    }
-}
-
-pub(crate) fn put_flags(lent: &mut [u8], whole: &Flags)
-    requires { ⌜ (length (now lent) ≡ 16) × (length (now whole) ≡ 16) ⌝ }
-    ensures { λ r. ⌜ after lent ≡ before whole ⌝ }
+pub(crate) fn put_flags(state: &mut [u64; 2048], whole: &Flags)
+    requires { ⌜ length (now whole) ≡ 16 ⌝ }
+    ensures { λ r. ⌜ after state ≡ sets (before state) flagsFrom (before whole) ⌝ }
 {
     let mut i: usize = 0;
     while i < 16 {
-        lent[i] = whole[i];
+        state[16 + i] = wide_flag(whole[i]);
         i += 1;
     }
+}
+
+pub(crate) fn put_copies(state: &mut [u64; 2048], from: usize, whole: &Copies)
+    requires { ⌜ (from + 512 ≤ 2048) × (length (now whole) ≡ 512) ⌝ }
+    ensures { λ r. ⌜ after state ≡ sets (before state) from (before whole) ⌝ }
+{
+    let mut i: usize = 0;
+    while i < 512 {
+        state[from + i] = whole[i];
+        i += 1;
+    }
+}
+
+pub(crate) fn put_told(told: &mut [u32; 8], a: Answered)
+    ensures { λ r. ⌜ after told ≡ toldBy a ⌝ }
+{
+    let answer = a.answer;
+    let counts = a.counts;
+    *told = [
+        answer.number() as u32,
+        answer.value(),
+        counts.read,
+        counts.rfo,
+        counts.write,
+        counts.t_read,
+        counts.t_rfo,
+        counts.busy,
+    ];
 }

@@ -1,19 +1,23 @@
-// The machine for programs in C: its dimensions are numbers, its state is four arrays that the caller lends. include/stirnfeld.h declares
-// these functions and says what every number means.
+// The machine for programs in C: one array of 2,048 numbers that the caller lends. include/stirnfeld.h declares these functions and says
+// what every number means.
 
+mod array;
 mod copying;
-mod state;
 
-use crate::state::lengths_ok;
-use crate::state::machine_of;
-use crate::state::put_machine;
-use rules::Dims;
+use crate::array::held_ok;
+use crate::array::machine_of;
+use crate::array::put_machine;
+use crate::copying::put_told;
+use entry::refusals::ACCEPTED;
+use entry::refusals::NOT_SOUND;
+use entry::step::Step;
 ghost use mathlib.Core.Path.{_≡_};
+ghost use Rattle.entry.specs.Step.{step};
 ghost use Rattle.rules.specs.Making.{dims};
-ghost use Rattle.exports.specs.Lent.{handed, makeIn, told, settledTold, leftIn, runIn};
-ghost use Rattle.rules.specs.Lent.{before, after, lent, returned, lentSteps, columnsOf};
+ghost use Rattle.rules.specs.Lent.{before, after, lentSteps, columnsOf};
+ghost use Rattle.exports.specs.Handed.{handed, makeIn, soundIn, stepLent, stepIn, runLent, runIn, settleIn};
 
-// The fresh state goes into the four arrays; initial is the memory that the caller gives.
+// initial is the memory that the caller gives. What the array held before does not matter.
 #[no_mangle]
 pub extern "C" fn stirnfeld_make(
     processors: usize,
@@ -21,98 +25,94 @@ pub extern "C" fn stirnfeld_make(
     lines: usize,
     entries: usize,
     initial: &[u32],
-    memory: &mut [u32],
-    regular: &mut [u64],
-    transactional: &mut [u64],
-    flags: &mut [u8],
+    state: &mut [u64; 2048],
 ) -> u8
-    ensures { λ r. ⌜ handed r (returned memory regular transactional flags) ≡ makeIn (dims processors words lines entries) (before initial) (lent memory regular transactional flags) ⌝ }
+    ensures { λ r. ⌜ handed r (after state) ≡ makeIn (dims processors words lines entries) (before initial) (before state) ⌝ }
 {
     let made = machine::make(processors, words, lines, entries, initial);
-    if made.refusal != 0 {
+    if made.refusal != ACCEPTED {
         return made.refusal;
     }
-    if !lengths_ok(memory, regular, transactional, flags) {
-        return 9;
-    }
-    put_machine(made.machine, memory, regular, transactional, flags);
-    0
+    put_machine(state, made.machine);
+    ACCEPTED
 }
 
-// The word's settled value goes into value; where it is refused, 0.
 #[no_mangle]
-pub extern "C" fn stirnfeld_settled(
-    processors: usize,
-    words: usize,
-    lines: usize,
-    entries: usize,
-    memory: &[u32],
-    regular: &[u64],
-    transactional: &[u64],
-    flags: &[u8],
-    word: u32,
-    value: &mut u32,
-) -> u8
-    ensures { λ r. ⌜ told r (after value) ≡ settledTold (dims processors words lines entries) (lent memory regular transactional flags) word ⌝ }
+pub extern "C" fn stirnfeld_sound(state: &[u64; 2048]) -> u8
+    ensures { λ r. ⌜ r ≡ soundIn (before state) ⌝ }
 {
-    if !lengths_ok(memory, regular, transactional, flags) {
-        *value = 0;
-        return 9;
+    if !held_ok(state) {
+        return NOT_SOUND;
     }
-    let d = Dims {
-        processors: processors,
-        words: words,
-        lines: lines,
-        entries: entries,
+    let m = machine_of(state);
+    if machine::sound(m) {
+        return ACCEPTED;
+    }
+    NOT_SOUND
+}
+
+// told becomes the answer's number, its value, and the six counts.
+#[no_mangle]
+pub extern "C" fn stirnfeld_step(
+    state: &mut [u64; 2048],
+    op: u8,
+    core: u8,
+    word: u32,
+    value: u32,
+    told: &mut [u32; 8],
+) -> u8
+    ensures { λ r. ⌜ handed r (stepLent (after state) (after told)) ≡ stepIn (before state) (step op core word value) (before told) ⌝ }
+{
+    if !held_ok(state) {
+        return NOT_SOUND;
+    }
+    let m = machine_of(state);
+    let asked = Step {
+        op: op,
+        core: core as usize,
+        word: word,
+        value: value,
     };
-    let m = machine_of(d, memory, regular, transactional, flags);
-    let answer = machine::settled(m, word);
-    *value = answer.value();
-    answer.refusal()
+    let stepped = machine::step(m, asked);
+    let answered = stepped.told;
+    let answer = answered.answer;
+    let refusal = answer.refusal();
+    if refusal != ACCEPTED {
+        return refusal;
+    }
+    put_machine(state, stepped.machine);
+    put_told(told, answered);
+    ACCEPTED
 }
 
 // The number of steps that were taken goes into taken; where the whole run is refused, 0.
 #[no_mangle]
 pub extern "C" fn stirnfeld_run(
-    processors: usize,
-    words: usize,
-    lines: usize,
-    entries: usize,
-    memory: &mut [u32],
-    regular: &mut [u64],
-    transactional: &mut [u64],
-    flags: &mut [u8],
+    state: &mut [u64; 2048],
     ops: &[u8],
     cores: &[u8],
     used_words: &[u32],
     values: &[u32],
     answers: &mut [u8],
     results: &mut [u32],
-    read: &mut [u32],
-    rfo: &mut [u32],
-    write: &mut [u32],
-    t_read: &mut [u32],
-    t_rfo: &mut [u32],
-    busy: &mut [u32],
+    reads: &mut [u32],
+    rfos: &mut [u32],
+    writes: &mut [u32],
+    t_reads: &mut [u32],
+    t_rfos: &mut [u32],
+    busies: &mut [u32],
     taken: &mut usize,
 ) -> u8
     ensures { λ r.
-        let d = dims processors words lines entries in
-        let c = columnsOf answers results read rfo write «t_read» «t_rfo» busy in
-        ⌜ leftIn d r (after taken) (returned memory regular transactional flags) (c .exit) ≡
-        runIn d (lent memory regular transactional flags) (lentSteps ops cores «used_words» values) (c .entry) ⌝ }
+        let c = columnsOf answers results reads rfos writes «t_reads» «t_rfos» busies in
+        ⌜ handed r (runLent (after taken) (after state) (c .exit)) ≡
+        runIn (before state) (lentSteps ops cores «used_words» values) (c .entry) ⌝ }
 {
-    if !lengths_ok(memory, regular, transactional, flags) {
+    if !held_ok(state) {
         *taken = 0;
-        return 9;
+        return NOT_SOUND;
     }
-    let d = Dims {
-        processors: processors,
-        words: words,
-        lines: lines,
-        entries: entries,
-    };
-    let m = machine_of(d, memory, regular, transactional, flags);
+    let m = machine_of(state);
     let ran = runs::run(
         m,
         ops,
@@ -121,14 +121,34 @@ pub extern "C" fn stirnfeld_run(
         values,
         answers,
         results,
-        read,
-        rfo,
-        write,
-        t_read,
-        t_rfo,
-        busy,
+        reads,
+        rfos,
+        writes,
+        t_reads,
+        t_rfos,
+        busies,
     );
-    put_machine(ran.machine, memory, regular, transactional, flags);
     *taken = ran.taken;
+    if ran.taken != 0 {
+        put_machine(state, ran.machine);
+    }
     ran.refusal
+}
+
+// values becomes every word's settled value, and 0 past the words.
+#[no_mangle]
+pub extern "C" fn stirnfeld_settle(state: &[u64; 2048], values: &mut [u32; 256]) -> u8
+    ensures { λ r. ⌜ handed r (after values) ≡ settleIn (before state) (before values) ⌝ }
+{
+    if !held_ok(state) {
+        return NOT_SOUND;
+    }
+    let m = machine_of(state);
+    let settled = machine::settle(m);
+    if settled.refusal != ACCEPTED {
+        return settled.refusal;
+    }
+    let all = settled.values;
+    *values = all;
+    ACCEPTED
 }

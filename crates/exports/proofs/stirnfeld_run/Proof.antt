@@ -1,14 +1,27 @@
-use Rattle.exports.proofs.Back.{run-back}
-use mathlib.Core.Path.{_∙_, sym}
-use borrow.Author.Tests.{not-true, not-false}
-use Rattle.exports.specs.Lent.{runIn}
-use Rattle.exports.proofs.Lengths.{long, run-short}
+use mathlib.Core.Path.{sym, _∙_}
+use borrow.Author.Tests.{ne-eqb, not-true, not-false}
 use borrow.Author.Needs.{needs}
+use Rattle.exports.specs.Handed.{runIn}
 use Rattle.exports.proofs.stirnfeld_run.Statement.{statement}
 use Rattle.exports.proofs.stirnfeld_run.Tie as tie
 
-lengths-ok-requires : tie.Need-lengths-ok-requires
-lengths-ok-requires c κs = search needs
+held-ok-requires : tie.Need-held-ok-requires
+held-ok-requires c κs = search needs
+
+returns : tie.Need-returns
+unfolding runIn
+returns c = rw (← c .before .held-ok .ensures, not-true (c .before .held-ok .result) (c .if1 .taken))
+
+machine-of-requires : tie.Need-machine-of-requires
+machine-of-requires c κs =
+    let c1 = c .before .before in
+    sym (c1 .held-ok .ensures) ∙ not-false (c1 .held-ok .result) (c .before .if1 .left)
+
+run-requires : tie.Need-run-requires
+run-requires c κs = search needs
+
+put-machine-requires : tie.Need-put-machine-requires
+put-machine-requires c κs = search needs
 
 same-length : tie.Need-same-length
 same-length c = search needs
@@ -22,27 +35,6 @@ same-length-3 c = search needs
 same-length-4 : tie.Need-same-length-4
 same-length-4 c = search needs
 
-returns : tie.Need-returns
-unfolding runIn
-returns c = rw (run-short _ _ (sym (c .before .lengths-ok .ensures) ∙ not-true (c .before .lengths-ok .result) (c .if1 .taken)))
-
-machine-of-requires : tie.Need-machine-of-requires
-machine-of-requires c κs =
-    let c1 = c .before .before .before .before in
-    let c2 = c1 .before in
-    long _ (sym (c2 .lengths-ok .ensures) ∙ not-false (c2 .lengths-ok .result) (c1 .if1 .left))
-
-run-requires : tie.Need-run-requires
-run-requires c κs = search needs
-
-put-machine-requires : tie.Need-put-machine-requires
-put-machine-requires c κs =
-    let c1 = c .before .before .before .before .before .before .before .before .before .before .before .before in
-    let c2 = c1 .before .before .before .before .before .before .before .before .before .before .before .before in
-    let c3 = c2 .before .before .before .before .before .before .before .before .before .before in
-    let c4 = c3 .before in
-    long _ (sym (c4 .lengths-ok .ensures) ∙ not-false (c4 .lengths-ok .result) (c3 .if1 .left))
-
 same-length-5 : tie.Need-same-length-5
 same-length-5 c = search needs
 
@@ -54,6 +46,22 @@ same-length-7 c = search needs
 
 same-length-8 : tie.Need-same-length-8
 same-length-8 c = search needs
+
+returns-2 : tie.Need-returns-2
+unfolding runIn
+returns-2 c =
+    let c1 = c .before .before in
+    let c2 = c1 .before .before .before .before .before .before .before .before .before in
+    let c3 = c2 .before .before .before .before .before .before .before .before .before in
+    let c4 = c3 .before .before .before .before .before .before .before .before .before in
+    let c5 = c4 .before .before in
+    let c6 = c5 .before in
+    rw (
+      ← c6 .held-ok .ensures,
+      not-false (c6 .held-ok .result) (c5 .if1 .left),
+      ← c4 .machine-of .ensures,
+    )
+    (rw (← c3 .run .ensures) (rw (ne-eqb _ _ (c1 .if2 .taken), c .put-machine .ensures)))
 
 same-length-9 : tie.Need-same-length-9
 same-length-9 c = search needs
@@ -79,32 +87,40 @@ same-length-15 c = search needs
 same-length-16 : tie.Need-same-length-16
 same-length-16 c = search needs
 
-returns-2 : tie.Need-returns-2
+returns-3 : tie.Need-returns-3
 unfolding runIn
-returns-2 c =
-    let c1 = c .before .before .before .before .before .before .before .before in
-    let c2 = c1 .before .before .before .before .before .before .before .before .before .before .before in
-    let c3 = c2 .before .before .before .before .before .before .before .before .before .before in
-    let c4 = c3 .before .before .before .before .before .before .before .before .before in
-    run-back _ _ _ _ _ (c3 .run .result) _ _ (c4 .machine-of .ensures) (c1 .put-machine .ensures) (c3 .run .ensures)
+returns-3 c =
+    let c1 = c .before .before .before .before .before .before .before .before .before in
+    let c2 = c1 .before .before .before .before .before .before .before .before .before in
+    let c3 = c2 .before .before .before .before .before .before .before .before .before in
+    let c4 = c3 .before .before in
+    let c5 = c4 .before in
+    rw (
+      ← c5 .held-ok .ensures,
+      not-false (c5 .held-ok .result) (c4 .if1 .left),
+      ← c3 .machine-of .ensures,
+      ← c2 .run .ensures,
+      c .if2 .left,
+    )
 
 pub stirnfeld-run-spec : {M : Type 1} → statement M
 stirnfeld-run-spec =
     tie.close
     (tie.spec
-    lengths-ok-requires
-    same-length
-    same-length-2
-    same-length-3
-    same-length-4
+    held-ok-requires
     returns
     machine-of-requires
     run-requires
     put-machine-requires
+    same-length
+    same-length-2
+    same-length-3
+    same-length-4
     same-length-5
     same-length-6
     same-length-7
     same-length-8
+    returns-2
     same-length-9
     same-length-10
     same-length-11
@@ -113,4 +129,4 @@ stirnfeld-run-spec =
     same-length-14
     same-length-15
     same-length-16
-    returns-2)
+    returns-3)

@@ -1,25 +1,29 @@
 use mathlib.Core.Path.{_≡_, refl, _∙_}
 use Prim.Native.Nat.{_≤_, _-_}
 use lib.ListN.{length, take, length-set}
-use Rattle.exports.proofs.Copied.{copy-turn, copy-end}
 use borrow.Author.Needs.{needs}
+use Rattle.exports.specs.Array.{part}
+use Rattle.exports.proofs.Copied.{read-turn, read-end}
 use Rattle.exports.proofs.copying.copies_of.Statement.{statement}
 use Rattle.exports.proofs.copying.copies_of.Tie as tie
 
 abbrev Inv-loop : tie.InvT-loop
-Inv-loop lent whole₀ i₀ whole i = (i ≤ 512) × ((length whole ≡ 512) × (take i whole ≡ take i lent))
+Inv-loop state from whole₀ i₀ whole i = (i ≤ 512) × (length whole ≡ 512) × (take i whole ≡ take i (part from 512 state))
 
 abbrev μ-loop : tie.MeasureT-loop
-μ-loop lent whole₀ i₀ whole i = 512 - i
+μ-loop state from whole₀ i₀ whole i = 512 - i
 
 loop-holds : tie.Need-loop-holds Inv-loop μ-loop
-loop-holds c = (search needs, (refl, refl))
+loop-holds c = (search needs, refl, refl)
+
+add-whole : tie.Need-add-whole Inv-loop μ-loop
+add-whole c = search needs
 
 mul-whole : tie.Need-mul-whole Inv-loop μ-loop
 mul-whole c = search needs
 
-shared-slice-read-whole : tie.Need-shared-slice-read-whole Inv-loop μ-loop
-shared-slice-read-whole c = search needs
+element-copy-out-whole : tie.Need-element-copy-out-whole Inv-loop μ-loop
+element-copy-out-whole c = search needs
 
 mul-whole-2 : tie.Need-mul-whole-2 Inv-loop μ-loop
 mul-whole-2 c = search needs
@@ -35,19 +39,18 @@ loop-less c = search needs
 
 loop-again : tie.Need-loop-again Inv-loop μ-loop
 loop-again c =
-    let c1 = c .before .before in
-    let l = c1 .loop in (
+    let l = c .before .before .loop in
+    let x = c .before .before .before .args in (
       search needs,
-      (
-        length-set (l .whole) _ _ ∙ l .inv .1 .0,
-        copy-turn (c1 .before .args .lent .now) (l .whole) (l .i) (search needs) (search needs) (l .inv .1 .1),
-      ),
+      length-set (l .whole) _ _ ∙ l .inv .1,
+      read-turn (x .state .now) (l .whole) (x .from) 512 (l .i) (l .inv .2) (search needs) (search needs),
     )
 
 returns : tie.Need-returns Inv-loop μ-loop
 returns c =
-    copy-end (c .before .before .args .lent .now) (c .before .loop .whole) (c .before .loop .i) (search needs) (search needs)
-    (c .before .loop .inv .1 .1)
+    let l = c .before .loop in
+    let x = c .before .before .args in
+    read-end (x .state .now) (l .whole) (x .from) 512 (l .i) (l .inv .2) (search needs) (search needs)
 
 pub copies-of-spec : {M : Type 1} → statement M
 copies-of-spec =
@@ -56,8 +59,9 @@ copies-of-spec =
     Inv-loop
     μ-loop
     loop-holds
+    add-whole
     mul-whole
-    shared-slice-read-whole
+    element-copy-out-whole
     mul-whole-2
     array-write-whole
     add-i

@@ -1,22 +1,36 @@
 use mathlib.Core.Path.{_≡_, refl, _∙_}
 use Prim.Native.Nat.{_≤_, _-_}
 use lib.ListN.{length, take, length-set}
-use Rattle.exports.proofs.Copied.{copy-turn, copy-end}
 use borrow.Author.Needs.{needs}
+use Rattle.exports.specs.Array.{flagsFrom, part}
+use Rattle.exports.proofs.Tested.{none-above-at}
+use Rattle.rules.specs.State.{trueFlag}
+use Rattle.exports.proofs.Copied.{read-turn, read-end}
 use Rattle.exports.proofs.copying.flags_of.Statement.{statement}
 use Rattle.exports.proofs.copying.flags_of.Tie as tie
 
 abbrev Inv-loop : tie.InvT-loop
-Inv-loop lent whole₀ i₀ whole i = (i ≤ 16) × ((length whole ≡ 16) × (take i whole ≡ take i lent))
+Inv-loop state whole₀ i₀ whole i = (i ≤ 16) × (length whole ≡ 16) × (take i whole ≡ take i (part 16 16 state))
 
 abbrev μ-loop : tie.MeasureT-loop
-μ-loop lent whole₀ i₀ whole i = 16 - i
+μ-loop state whole₀ i₀ whole i = 16 - i
 
 loop-holds : tie.Need-loop-holds Inv-loop μ-loop
-loop-holds c = (search needs, (refl, refl))
+loop-holds c = (search needs, refl, refl)
 
-shared-slice-read-whole : tie.Need-shared-slice-read-whole Inv-loop μ-loop
-shared-slice-read-whole c = search needs
+add-narrow-flag : tie.Need-add-narrow-flag Inv-loop μ-loop
+add-narrow-flag c = search needs
+
+mul-narrow-flag : tie.Need-mul-narrow-flag Inv-loop μ-loop
+mul-narrow-flag c = search needs
+
+element-copy-out-narrow-flag : tie.Need-element-copy-out-narrow-flag Inv-loop μ-loop
+element-copy-out-narrow-flag c = search needs
+
+narrow-flag-requires : tie.Need-narrow-flag-requires Inv-loop μ-loop
+narrow-flag-requires c κs =
+    let c1 = c .before .before .before in
+    none-above-at (c1 .args .state .now) trueFlag flagsFrom 32 (search needs) (c1 .pre) _ (search needs) (search needs)
 
 array-write-whole : tie.Need-array-write-whole Inv-loop μ-loop
 array-write-whole c = search needs
@@ -29,19 +43,19 @@ loop-less c = search needs
 
 loop-again : tie.Need-loop-again Inv-loop μ-loop
 loop-again c =
-    let c1 = c .before .before in
-    let l = c1 .loop in (
+    let l = c .before .before .before .loop in
+    let s = c .before .before .before .before .args .state .now in (
       search needs,
-      (
-        length-set (l .whole) _ _ ∙ l .inv .1 .0,
-        copy-turn (c1 .before .args .lent .now) (l .whole) (l .i) (search needs) (search needs) (l .inv .1 .1),
-      ),
+      length-set (l .whole) _ _ ∙ l .inv .1,
+      rw (c .narrow-flag .ensures)
+          (read-turn s (l .whole) 16 16 (l .i) (l .inv .2) (search needs) (search needs)),
     )
 
 returns : tie.Need-returns Inv-loop μ-loop
 returns c =
-    copy-end (c .before .before .args .lent .now) (c .before .loop .whole) (c .before .loop .i) (search needs) (search needs)
-    (c .before .loop .inv .1 .1)
+    let l = c .before .loop in
+    let x = c .before .before .args in
+    read-end (x .state .now) (l .whole) 16 16 (l .i) (l .inv .2) (search needs) (search needs)
 
 pub flags-of-spec : {M : Type 1} → statement M
 flags-of-spec =
@@ -50,7 +64,10 @@ flags-of-spec =
     Inv-loop
     μ-loop
     loop-holds
-    shared-slice-read-whole
+    add-narrow-flag
+    mul-narrow-flag
+    element-copy-out-narrow-flag
+    narrow-flag-requires
     array-write-whole
     add-i
     loop-less

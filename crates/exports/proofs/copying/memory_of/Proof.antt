@@ -1,28 +1,38 @@
 use mathlib.Core.Path.{_≡_, refl, _∙_}
 use Prim.Native.Nat.{_≤_, _-_}
 use lib.ListN.{length, take, length-set}
-use Rattle.exports.proofs.Copied.{copy-turn, copy-end}
 use borrow.Author.Needs.{needs}
+use Rattle.exports.specs.Array.{mostValue, memoryFrom, linesFrom, part}
+use Rattle.exports.proofs.Tested.{none-above-at}
+use Rattle.exports.proofs.Copied.{read-turn, read-end}
 use Rattle.exports.proofs.copying.memory_of.Statement.{statement}
 use Rattle.exports.proofs.copying.memory_of.Tie as tie
 
 abbrev Inv-loop : tie.InvT-loop
-Inv-loop lent whole₀ i₀ whole i = (i ≤ 256) × ((length whole ≡ 256) × (take i whole ≡ take i lent))
+Inv-loop state whole₀ i₀ whole i = (i ≤ 256) × (length whole ≡ 256) × (take i whole ≡ take i (part 256 256 state))
 
 abbrev μ-loop : tie.MeasureT-loop
-μ-loop lent whole₀ i₀ whole i = 256 - i
+μ-loop state whole₀ i₀ whole i = 256 - i
 
 loop-holds : tie.Need-loop-holds Inv-loop μ-loop
-loop-holds c = (search needs, (refl, refl))
+loop-holds c = (search needs, refl, refl)
+
+add-narrow-value : tie.Need-add-narrow-value Inv-loop μ-loop
+add-narrow-value c = search needs
+
+mul-narrow-value : tie.Need-mul-narrow-value Inv-loop μ-loop
+mul-narrow-value c = search needs
+
+element-copy-out-narrow-value : tie.Need-element-copy-out-narrow-value Inv-loop μ-loop
+element-copy-out-narrow-value c = search needs
+
+narrow-value-requires : tie.Need-narrow-value-requires Inv-loop μ-loop
+narrow-value-requires c κs =
+    let c1 = c .before .before .before in
+    none-above-at (c1 .args .state .now) mostValue memoryFrom linesFrom (search needs) (c1 .pre) _ (search needs) (search needs)
 
 mul-whole : tie.Need-mul-whole Inv-loop μ-loop
 mul-whole c = search needs
-
-shared-slice-read-whole : tie.Need-shared-slice-read-whole Inv-loop μ-loop
-shared-slice-read-whole c = search needs
-
-mul-whole-2 : tie.Need-mul-whole-2 Inv-loop μ-loop
-mul-whole-2 c = search needs
 
 array-write-whole : tie.Need-array-write-whole Inv-loop μ-loop
 array-write-whole c = search needs
@@ -35,19 +45,19 @@ loop-less c = search needs
 
 loop-again : tie.Need-loop-again Inv-loop μ-loop
 loop-again c =
-    let c1 = c .before .before in
-    let l = c1 .loop in (
+    let l = c .before .before .before .loop in
+    let s = c .before .before .before .before .args .state .now in (
       search needs,
-      (
-        length-set (l .whole) _ _ ∙ l .inv .1 .0,
-        copy-turn (c1 .before .args .lent .now) (l .whole) (l .i) (search needs) (search needs) (l .inv .1 .1),
-      ),
+      length-set (l .whole) _ _ ∙ l .inv .1,
+      rw (c .narrow-value .ensures)
+          (read-turn s (l .whole) 256 256 (l .i) (l .inv .2) (search needs) (search needs)),
     )
 
 returns : tie.Need-returns Inv-loop μ-loop
 returns c =
-    copy-end (c .before .before .args .lent .now) (c .before .loop .whole) (c .before .loop .i) (search needs) (search needs)
-    (c .before .loop .inv .1 .1)
+    let l = c .before .loop in
+    let x = c .before .before .args in
+    read-end (x .state .now) (l .whole) 256 256 (l .i) (l .inv .2) (search needs) (search needs)
 
 pub memory-of-spec : {M : Type 1} → statement M
 memory-of-spec =
@@ -56,9 +66,11 @@ memory-of-spec =
     Inv-loop
     μ-loop
     loop-holds
+    add-narrow-value
+    mul-narrow-value
+    element-copy-out-narrow-value
+    narrow-value-requires
     mul-whole
-    shared-slice-read-whole
-    mul-whole-2
     array-write-whole
     add-i
     loop-less

@@ -1,25 +1,35 @@
-use mathlib.Core.Path.{_≡_, refl, _∙_}
+use mathlib.Core.Path.{_≡_, refl}
 use Prim.Native.Nat.{_≤_, _-_}
-use lib.ListN.{length, take, length-set}
-use Rattle.exports.proofs.Copied.{copy-turn, copy-end}
+use lib.ListN.{take}
+use lib.Seq.{sets}
 use borrow.Author.Needs.{needs}
+use Rattle.exports.proofs.Copied.{put-turn, put-end}
 use Rattle.exports.proofs.copying.put_flags.Statement.{statement}
 use Rattle.exports.proofs.copying.put_flags.Tie as tie
 
 abbrev Inv-loop : tie.InvT-loop
-Inv-loop lent₀ whole i₀ lent i = (i ≤ 16) × ((length lent ≡ 16) × (take i lent ≡ take i whole))
+Inv-loop state₀ whole i₀ state i = (i ≤ 16) × (state ≡ sets state₀ 16 (take i whole))
 
 abbrev μ-loop : tie.MeasureT-loop
-μ-loop lent₀ whole i₀ lent i = 16 - i
+μ-loop state₀ whole i₀ state i = 16 - i
 
 loop-holds : tie.Need-loop-holds Inv-loop μ-loop
-loop-holds c = (search needs, (c .pre .0, refl))
+loop-holds c = (search needs, refl)
 
-element-copy-out-lent : tie.Need-element-copy-out-lent Inv-loop μ-loop
-element-copy-out-lent c = search needs
+element-copy-out-wide-flag : tie.Need-element-copy-out-wide-flag Inv-loop μ-loop
+element-copy-out-wide-flag c = search needs
 
-slice-write-lent : tie.Need-slice-write-lent Inv-loop μ-loop
-slice-write-lent c = search needs
+wide-flag-requires : tie.Need-wide-flag-requires Inv-loop μ-loop
+wide-flag-requires c κs = search needs
+
+add-state : tie.Need-add-state Inv-loop μ-loop
+add-state c = search needs
+
+mul-state : tie.Need-mul-state Inv-loop μ-loop
+mul-state c = search needs
+
+element-write-state : tie.Need-element-write-state Inv-loop μ-loop
+element-write-state c = search needs
 
 add-i : tie.Need-add-i Inv-loop μ-loop
 add-i c = search needs
@@ -29,22 +39,17 @@ loop-less c = search needs
 
 loop-again : tie.Need-loop-again Inv-loop μ-loop
 loop-again c =
-    let c1 = c .before .before in
-    let l = c1 .loop in (
+    let l = c .before .before .before .loop in
+    let x = c .before .before .before .before .args in (
       search needs,
-      (
-        length-set (l .lent) _ _ ∙ l .inv .1 .0,
-        copy-turn (c1 .before .args .whole .now) (l .lent) (l .i) (search needs) (search needs) (l .inv .1 .1),
-      ),
+      rw (c .wide-flag .ensures) (put-turn (x .state .now) (x .whole .now) (l .state) 16 (l .i) (l .inv .1) (search needs)),
     )
-
-same-length : tie.Need-same-length Inv-loop μ-loop
-same-length c = search needs
 
 returns : tie.Need-returns Inv-loop μ-loop
 returns c =
-    copy-end (c .before .before .args .whole .now) (c .before .loop .lent) (c .before .loop .i) (search needs) (search needs)
-    (c .before .loop .inv .1 .1)
+    let l = c .before .loop in
+    let x = c .before .before .args in
+    put-end (x .state .now) (x .whole .now) (l .state) 16 (l .i) (l .inv .1) (search needs)
 
 pub put-flags-spec : {M : Type 1} → statement M
 put-flags-spec =
@@ -53,10 +58,12 @@ put-flags-spec =
     Inv-loop
     μ-loop
     loop-holds
-    element-copy-out-lent
-    slice-write-lent
+    element-copy-out-wide-flag
+    wide-flag-requires
+    add-state
+    mul-state
+    element-write-state
     add-i
     loop-less
     loop-again
-    same-length
     returns)

@@ -1,0 +1,69 @@
+-- The machine in one array of 2,048 numbers of 64 bits. A place that is named nowhere here holds 0.
+use mathlib.Core.Bool.{Bool}
+use mathlib.Core.List.{List, [], _∷_}
+use Prim.Native.Nat.{ℕ, zero, suc, _-_}
+use lib.Dec.{eqb, ltb}
+use lib.ListN.{getD, replicate}
+use lib.Seq.{sets}
+use Rattle.laws.specs.Choice.{both}
+use Rattle.laws.specs.Search.{firstFrom}
+use Rattle.rules.specs.declared.Machine.{Machine}
+use Rattle.rules.specs.State.{caches, machineOf, trueFlag}
+use Rattle.rules.specs.Making.{dims}
+
+-- Places 0 to 3 hold the dimensions. From these on stand TACTIVE and TSTATUS of each processor, the words of memory, the regular lines and
+-- the transactional entries, each part as a machine has it.
+abbrev pub flagsFrom : ℕ
+flagsFrom = 16
+
+abbrev pub memoryFrom : ℕ
+memoryFrom = 256
+
+abbrev pub linesFrom : ℕ
+linesFrom = 512
+
+abbrev pub entriesFrom : ℕ
+entriesFrom = 1024
+
+-- n numbers of s from a place on
+unfoldable pub part : ℕ → ℕ → List ℕ → List ℕ
+part from zero s = []
+part from (suc n) s = getD s from 0 ∷ part (suc from) n s
+
+-- the machine that an array holds
+unfoldable pub machineIn : List ℕ → Machine
+machineIn s =
+    machineOf (dims (getD s 0 0) (getD s 1 0) (getD s 2 0) (getD s 3 0))
+    (caches (part memoryFrom 256 s) (part linesFrom 512 s) (part entriesFrom 512 s) (part flagsFrom 16 s))
+
+unfoldable pub blank : List ℕ
+blank = replicate 2048 0
+
+-- the array that holds a machine
+unfoldable pub arrayOf : Machine → List ℕ
+arrayOf m =
+    let d = m .dims in
+    let sized = sets blank 0 (d .processors ∷ d .words ∷ d .lines ∷ d .entries ∷ []) in
+    let flagged = sets sized flagsFrom (m .flags) in
+    let remembering = sets flagged memoryFrom (m .memory) in
+    let lined = sets remembering linesFrom (m .lines) in
+    sets lined entriesFrom (m .entries)
+
+abbrev pub above : ℕ → List ℕ → ℕ → Bool
+above most s i = ltb most (getD s i 0)
+
+-- no place from one up to another holds a number above most
+unfoldable pub noneAbove : ℕ → ℕ → ℕ → List ℕ → Bool
+noneAbove most from to s = eqb (firstFrom (above most s) from (to - from)) to
+
+-- "32-bit values"
+abbrev pub mostValue : ℕ
+mostValue = 4294967295
+
+-- An array holds a machine where its flags and values are in range and all other places 0. What a sound state asks of the dimensions and of
+-- the copies it asks of the machine.
+unfoldable pub heldOk : List ℕ → Bool
+heldOk s =
+    both (noneAbove 0 4 flagsFrom s)
+    (both (noneAbove trueFlag flagsFrom 32 s)
+    (both (noneAbove 0 32 memoryFrom s) (both (noneAbove mostValue memoryFrom linesFrom s) (noneAbove 0 1536 2048 s))))
