@@ -1,22 +1,13 @@
-/* Times the second program's run as crates/pace times the proved machine's: the
- * same trace from standard input, the same rounds, and the same sum over all
- * that came back. */
+/* Times a machine's run: reads a trace from standard input, runs it from the fresh
+ * machine as often as asked, and prints the processor time that the runs took, and
+ * a sum over all that came back. Called with an argument it leaves the sum out, for
+ * those who count instructions. */
 #include <inttypes.h>
 #include <stdio.h>
 #include <stdlib.h>
-#include <string.h>
 #include <time.h>
 
-#include "pack.h"
-#include "run.h"
-#include "trace.h"
-
-static struct trace trace;
-static uint32_t steps[TRACE_PLACES];
-static uint32_t cores[TRACE_PLACES];
-static uint32_t words[TRACE_PLACES];
-static uint32_t values[TRACE_PLACES];
-static struct answer answers[TRACE_PLACES];
+#include "pace.h"
 
 static uint64_t sum = 14695981039346656037u;
 
@@ -26,77 +17,54 @@ static void mix(uint64_t number)
     sum = (sum ^ number) * 1099511628211u;
 }
 
-static void widen(uint32_t *column, const uint8_t *bytes)
-{
-    for (size_t i = 0; i < TRACE_PLACES; i++)
-        column[i] = bytes[i];
-}
-
 static void mix_answers(void)
 {
     for (size_t i = 0; i < TRACE_PLACES; i++)
-        mix(answers[i].kind);
+        mix(pace_answer(i));
     for (size_t i = 0; i < TRACE_PLACES; i++)
-        mix(answers[i].value);
-    for (int cycle = 0; cycle < CYCLES; cycle++)
+        mix(pace_result(i));
+    for (int cycle = 0; cycle < CYCLE_KINDS; cycle++)
         for (size_t i = 0; i < TRACE_PLACES; i++)
-            mix(answers[i].counts[cycle]);
+            mix(pace_count(cycle, i));
 }
 
-static void mix_machine(const struct machine *machine)
+static void mix_state(void)
 {
-    static struct state state;
-    pack_state(&state, machine);
-    for (size_t i = 0; i < MAX_WORDS; i++)
-        mix(state.memory[i]);
-    for (size_t i = 0; i < MAX_PROCESSORS * MAX_LINES; i++)
-        mix(state.lines[i]);
-    for (size_t i = 0; i < MAX_PROCESSORS * MAX_ENTRIES; i++)
-        mix(state.entries[i]);
-    for (size_t i = 0; i < 2 * MAX_PROCESSORS; i++)
-        mix(state.flags[i]);
+    static uint64_t state[STIRNFELD_STATE];
+    pace_state(state);
+    for (size_t place = 0; place < STIRNFELD_STATE; place++)
+        mix(state[place]);
 }
 
-/* The proved machine's run takes its state by value, so the copy is timed. */
-static uint64_t one_round(const struct machine *fresh, const struct columns *columns)
+static void mix_round(void)
 {
-    static struct machine machine;
-    memset(answers, 0, sizeof answers);
-    clock_t began = clock();
-    machine = *fresh;
-    struct run ran = machine_run(&machine, columns);
-    clock_t ended = clock();
-    mix(ran.taken);
-    mix(ran.refusal);
+    mix(pace_taken());
+    mix(pace_refusal());
     mix_answers();
-    mix_machine(&machine);
+    mix_state();
+}
+
+static uint64_t one_round(void)
+{
+    pace_clear();
+    clock_t began = clock();
+    pace_run();
+    clock_t ended = clock();
     return (uint64_t)(ended - began);
 }
 
-static void make_fresh(struct machine *machine)
+int main(int argc, char **argv)
 {
-    static const uint32_t memory[MAX_WORDS];
-    struct dimensions dimensions = {trace.processors, trace.words, trace.lines,
-                                    trace.entries};
-    if (machine_make(machine, dimensions, memory, trace.words) != NOT_REFUSED)
-        exit(EXIT_FAILURE);
-}
-
-int main(void)
-{
-    static struct machine fresh;
+    (void)argv;
+    static struct trace trace;
     uint64_t ticks = 0;
-    if (fread(&trace, sizeof trace, 1, stdin) != 1)
+    if (fread(&trace, sizeof trace, 1, stdin) != 1 || !pace_prepare(&trace))
         return EXIT_FAILURE;
-    widen(steps, trace.step_column);
-    widen(cores, trace.core_column);
-    widen(words, trace.word_column);
-    widen(values, trace.value_column);
-    make_fresh(&fresh);
-    size_t n = trace.steps;
-    struct columns columns = {steps, cores, words, values, answers, n, n, n, n, n};
-    for (uint32_t round = 0; round < trace.rounds; round++)
-        ticks += one_round(&fresh, &columns);
+    for (uint32_t round = 0; round < trace.rounds; round++) {
+        ticks += one_round();
+        if (argc == 1)
+            mix_round();
+    }
     printf("%" PRIu64 " %016" PRIx64 "\n", ticks, sum);
     return EXIT_SUCCESS;
 }

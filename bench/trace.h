@@ -1,4 +1,4 @@
-/* What crates/pace and pace.c read: a head of six numbers and four columns of
+/* What pace.c reads: a head of six numbers and four columns of
  * bytes, all of full size, of which a run is lent the first `steps`. Every
  * number is little-endian, and there is no padding. */
 #ifndef TRACE_H

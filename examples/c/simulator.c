@@ -8,16 +8,7 @@
 
 enum { PROCESSORS = 4, WORDS = 16, LINES = 4, ENTRIES = 4, STEPS = 8 };
 
-#define DIMENSIONS PROCESSORS, WORDS, LINES, ENTRIES
-
-static uint32_t memory[STIRNFELD_MEMORY];
-static uint64_t regular[STIRNFELD_REGULAR];
-static uint64_t transactional[STIRNFELD_TRANSACTIONAL];
-static uint8_t flags[STIRNFELD_FLAGS];
-
-#define STATE                                                            \
-    memory, STIRNFELD_MEMORY, regular, STIRNFELD_REGULAR, transactional, \
-        STIRNFELD_TRANSACTIONAL, flags, STIRNFELD_FLAGS
+static uint64_t state[STIRNFELD_STATE];
 
 static const uint8_t ops[STEPS] = {
     STIRNFELD_LTX, STIRNFELD_ST, STIRNFELD_LT, STIRNFELD_COMMIT,
@@ -27,10 +18,22 @@ static const uint8_t cores[STEPS] = { 0, 0, 1, 1, 0, 1, 1, 1 };
 static const uint32_t used_words[STEPS] = { 5, 5, 5, 0, 0, 5, 0, 0 };
 static const uint32_t values[STEPS] = { 0, 7, 0, 0, 0, 0, 0, 0 };
 
-static uint8_t answers[STEPS];
+static const stirnfeld_steps steps = {
+    .ops = { ops, STEPS }, .cores = { cores, STEPS },
+    .used_words = { used_words, STEPS }, .values = { values, STEPS }
+};
+
+static uint8_t numbers[STEPS];
 static uint32_t results[STEPS];
-static uint32_t read[STEPS], rfo[STEPS], write[STEPS];
-static uint32_t t_read[STEPS], t_rfo[STEPS], busy[STEPS];
+static uint32_t reads[STEPS], rfos[STEPS], writes[STEPS];
+static uint32_t t_reads[STEPS], t_rfos[STEPS], busies[STEPS];
+
+static const stirnfeld_answers answers = {
+    .numbers = { numbers, STEPS }, .results = { results, STEPS },
+    .reads = { reads, STEPS }, .rfos = { rfos, STEPS },
+    .writes = { writes, STEPS }, .t_reads = { t_reads, STEPS },
+    .t_rfos = { t_rfos, STEPS }, .busies = { busies, STEPS }
+};
 
 static const char *const step_names[] = {
     "LOAD", "STORE", "LT", "LTX", "ST", "COMMIT", "ABORT", "VALIDATE", "INTERRUPT"
@@ -50,16 +53,14 @@ static void must(const char *call, uint8_t refusal)
 static void make_machine(void)
 {
     static const uint32_t initial[WORDS];
-    must("the machine", stirnfeld_make(DIMENSIONS, initial, WORDS, STATE));
+    must("the machine",
+         stirnfeld_make(PROCESSORS, WORDS, LINES, ENTRIES, initial, WORDS, state));
 }
 
 static void run_trace(void)
 {
     size_t taken;
-    must("the run", stirnfeld_run(
-        DIMENSIONS, STATE, ops, STEPS, cores, STEPS, used_words, STEPS,
-        values, STEPS, answers, STEPS, results, STEPS, read, STEPS, rfo, STEPS,
-        write, STEPS, t_read, STEPS, t_rfo, STEPS, busy, STEPS, &taken));
+    must("the run", stirnfeld_run_columns(state, steps, answers, &taken));
 }
 
 static void print_answers(void)
@@ -69,21 +70,20 @@ static void print_answers(void)
     for (size_t i = 0; i < STEPS; i++) {
         printf("%4u %-9s  %4" PRIu32 " %5" PRIu32 "  %-7s  %5" PRIu32 "  ",
                cores[i], step_names[ops[i]], used_words[i], values[i],
-               answer_names[answers[i]], results[i]);
+               answer_names[numbers[i]], results[i]);
         printf("%4" PRIu32 " %3" PRIu32 " %5" PRIu32 " %6" PRIu32 " %5" PRIu32
                " %4" PRIu32 "\n",
-               read[i], rfo[i], write[i], t_read[i], t_rfo[i], busy[i]);
+               reads[i], rfos[i], writes[i], t_reads[i], t_rfos[i], busies[i]);
     }
 }
 
 static void print_settled(void)
 {
+    uint32_t settled[STIRNFELD_SETTLED];
+    must("the state", stirnfeld_settle(state, settled));
     printf("word settled\n");
-    for (uint32_t word = 0; word < WORDS; word++) {
-        uint32_t value;
-        must("a word", stirnfeld_settled(DIMENSIONS, STATE, word, &value));
-        printf("%4" PRIu32 " %7" PRIu32 "\n", word, value);
-    }
+    for (uint32_t word = 0; word < WORDS; word++)
+        printf("%4" PRIu32 " %7" PRIu32 "\n", word, settled[word]);
 }
 
 int main(void)

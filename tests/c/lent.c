@@ -9,40 +9,44 @@ static struct lent remembered;
 
 void make_bench(void)
 {
-    memset(&lent, 0xA5, sizeof lent);
+    memset(&lent, NOISE, sizeof lent);
     asked = (struct asked){
-        .processors = 2, .words = 4, .lines = 4, .entries = 2, .initial = 4,
-        .arrays = { STIRNFELD_MEMORY, STIRNFELD_REGULAR, STIRNFELD_TRANSACTIONAL,
-                    STIRNFELD_FLAGS }
+        .processors = 2, .words = 4, .lines = 4, .entries = 2, .initial = 4
     };
     for (uint32_t a = 0; a < 4; a++)
         lent.initial[a] = 10 + a;
     make();
 }
 
-#define DIMENSIONS asked.processors, asked.words, asked.lines, asked.entries
-#define STATE                                                           \
-    lent.memory, asked.arrays[0], lent.regular, asked.arrays[1],        \
-        lent.transactional, asked.arrays[2], lent.flags, asked.arrays[3]
-
 uint8_t make(void)
 {
-    return stirnfeld_make(DIMENSIONS, lent.initial, asked.initial, STATE);
+    return stirnfeld_make(asked.processors, asked.words, asked.lines, asked.entries,
+                          lent.initial, asked.initial, lent.state);
 }
 
-uint8_t settled(uint32_t word, uint32_t *value)
+uint8_t step(uint8_t op, uint8_t core, uint32_t word, uint32_t value)
 {
-    return stirnfeld_settled(DIMENSIONS, STATE, word, value);
+    return stirnfeld_step(lent.state, op, core, word, value, lent.told);
 }
 
 uint8_t run(size_t *taken)
 {
     const size_t *n = asked.columns;
     return stirnfeld_run(
-        DIMENSIONS, STATE, lent.ops, n[0], lent.cores, n[1], lent.used_words,
-        n[2], lent.values, n[3], lent.answers, n[4], lent.results, n[5],
+        lent.state, lent.ops, n[0], lent.cores, n[1], lent.used_words, n[2],
+        lent.values, n[3], lent.numbers, n[4], lent.results, n[5],
         lent.counts[0], n[6], lent.counts[1], n[7], lent.counts[2], n[8],
         lent.counts[3], n[9], lent.counts[4], n[10], lent.counts[5], n[11], taken);
+}
+
+uint8_t sound(void)
+{
+    return stirnfeld_sound(lent.state);
+}
+
+uint8_t settle(void)
+{
+    return stirnfeld_settle(lent.state, lent.settled);
 }
 
 void set_columns(size_t length)

@@ -40,52 +40,25 @@ static void initial_of_another_length(void)
     expect_refusal(5, "a word more");
     asked.initial = 0;
     expect_refusal(5, "no word");
-}
-
-static void arrays_of_another_length(void)
-{
-    for (int k = 0; k < ARRAYS; k++)
-        for (int more = -1; more <= 1; more += 2) {
-            make_bench();
-            asked.arrays[k] += (size_t)more;
-            expect_refusal(9, "an array of another length");
-        }
-}
-
-static void nine_comes_last(void)
-{
-    make_bench();
-    asked.arrays[0] = 0;
     asked.entries = 0;
-    expect_refusal(4, "4 before 9");
-    asked.entries = 2;
-    asked.initial = 0;
-    expect_refusal(5, "5 before 9");
+    expect_refusal(4, "4 before 5");
 }
 
-static bool all_zero(const uint64_t *copies, size_t length)
-{
-    for (size_t i = 0; i < length; i++)
-        if (copies[i] != 0)
-            return false;
-    return true;
-}
-
-/* include/stirnfeld.h says what a fresh state holds in places that the dimensions
- * do not reach. */
+/* The array held noise before. */
 static void a_fresh_state(void)
 {
+    uint64_t fresh[STIRNFELD_STATE] = {
+        [STIRNFELD_PROCESSORS] = 2, [STIRNFELD_WORDS] = 4,
+        [STIRNFELD_LINES] = 4, [STIRNFELD_ENTRIES] = 2,
+        [STIRNFELD_TSTATUS] = 1, [STIRNFELD_TSTATUS + 1] = 1,
+        [STIRNFELD_MEMORY] = 10, [STIRNFELD_MEMORY + 1] = 11,
+        [STIRNFELD_MEMORY + 2] = 12, [STIRNFELD_MEMORY + 3] = 13
+    };
     make_bench();
-    uint32_t words[STIRNFELD_MEMORY] = { 10, 11, 12, 13 };
-    uint8_t flags[STIRNFELD_FLAGS] = { [8] = 1, [9] = 1 };
-    expect(memcmp(lent.memory, words, sizeof words) == 0, "memory is what was given, then 0");
-    expect(all_zero(lent.regular, STIRNFELD_REGULAR), "every line is empty");
-    expect(all_zero(lent.transactional, STIRNFELD_TRANSACTIONAL), "every entry is empty");
-    expect(memcmp(lent.flags, flags, sizeof flags) == 0, "TACTIVE false, TSTATUS true");
-    expect(lent.memory[STIRNFELD_MEMORY] == 0xA5A5A5A5 && lent.flags[STIRNFELD_FLAGS] == 0xA5 &&
-               lent.regular[STIRNFELD_REGULAR] == 0xA5A5A5A5A5A5A5A5 &&
-               lent.transactional[STIRNFELD_TRANSACTIONAL] == 0xA5A5A5A5A5A5A5A5,
-           "nothing is written past an array");
+    for (size_t i = 0; i < STIRNFELD_STATE; i++)
+        expect(lent.state[i] == fresh[i], "place %zu is %llu", i,
+               (unsigned long long)fresh[i]);
+    expect(lent.state[STIRNFELD_STATE] == NOISE_64, "nothing is written past the array");
 }
 
 static void the_largest(void)
@@ -95,15 +68,15 @@ static void the_largest(void)
     asked.words = asked.initial = 256;
     asked.lines = asked.entries = 64;
     expect(make() == 0, "8 processors, 256 words, 64 lines, 64 entries pass");
-    expect(memcmp(lent.memory, lent.initial, 256 * sizeof *lent.memory) == 0, "memory is whole");
+    for (size_t a = 0; a < 256; a++)
+        expect(lent.state[STIRNFELD_MEMORY + a] == lent.initial[a], "word %zu is there", a);
+    expect(sound() == 0, "it is sound");
 }
 
 void test_make(void)
 {
     test("make: 1 to 4, dimensions out of range", out_of_range);
     test("make: 5, initial memory of another length", initial_of_another_length);
-    test("make: 9, arrays of another length", arrays_of_another_length);
-    test("make: 9 comes after 1 to 5", nine_comes_last);
     test("make: a fresh state", a_fresh_state);
     test("make: the largest machine", the_largest);
 }

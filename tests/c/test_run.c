@@ -53,7 +53,7 @@ static void too_long(void)
     set_columns(65536);
     size_t taken;
     expect(run(&taken) == 0 && taken == 65536, "65,536 steps pass");
-    expect(lent.results[65535] == 10 && lent.results[65536] == 0xA5A5A5A5,
+    expect(lent.results[65535] == 10 && lent.results[65536] == NOISE_32,
            "the last place is written, and none past it");
 }
 
@@ -98,12 +98,12 @@ static void refused_steps(void)
     stop_at(8, STIRNFELD_ST, 1, UINT32_MAX);
 }
 
-static bool row_is(size_t i, uint8_t answer, uint32_t result, const uint32_t counts[6])
+static bool row_is(size_t i, uint8_t answer, uint32_t result, const uint32_t counts[CYCLES])
 {
-    for (int k = 0; k < 6; k++)
+    for (int k = 0; k < CYCLES; k++)
         if (lent.counts[k][i] != counts[k])
             return false;
-    return lent.answers[i] == answer && lent.results[i] == result;
+    return lent.numbers[i] == answer && lent.results[i] == result;
 }
 
 /* Document 01's case J, with every count. */
@@ -121,7 +121,7 @@ static void case_j(void)
     expect(row_is(1, STIRNFELD_VALUE, 11, (uint32_t[6]){ [3] = 1 }), "LT is 11, one T_READ");
     expect(row_is(2, STIRNFELD_DONE, 0, (uint32_t[6]){ [2] = 1 }), "STORE, one WRITE");
     expect(row_is(3, STIRNFELD_FAILURE, 0, (uint32_t[6]){ 0 }), "COMMIT is FAILURE");
-    expect(lent.memory[1] == 8, "memory has the WRITE");
+    expect(lent.state[STIRNFELD_MEMORY + 1] == 8, "memory has the WRITE");
 }
 
 void test_run(void)

@@ -55,10 +55,9 @@ static struct spot pick_between(struct job *job, struct dice *dice, enum caches 
         for (int line = 0; line < 2; line++) {
             if (!(caches & (line ? IN_LINES : IN_ENTRIES)))
                 continue;
-            uint64_t length = job->dimensions[line ? 2 : 3];
-            uint64_t *copies = line ? job->state.lines : job->state.entries;
+            uint64_t length = job->state[line ? STIRNFELD_LINES : STIRNFELD_ENTRIES];
             for (uint32_t i = 0; i < length; i++) {
-                uint64_t *copy = &copies[copy_place(p, i)];
+                uint64_t *copy = &job->state[line ? line_place(p, i) : entry_place(p, i)];
                 if (fits(*copy) && roll_one_in(dice, ++seen))
                     picked = (struct spot){copy, p, i, line};
             }
@@ -69,7 +68,7 @@ static struct spot pick_between(struct job *job, struct dice *dice, enum caches 
 static struct spot pick(struct job *job, struct dice *dice, enum caches caches,
                         predicate *fits)
 {
-    return pick_between(job, dice, caches, fits, 0, (uint32_t)job->dimensions[0]);
+    return pick_between(job, dice, caches, fits, 0, (uint32_t)job->state[STIRNFELD_PROCESSORS]);
 }
 
 static struct spot pick_of(struct job *job, struct dice *dice, enum caches caches,
@@ -90,7 +89,7 @@ static void set_tag(uint64_t *copy, uint32_t tag)
 
 static uint64_t valid_copy(const struct job *job, uint32_t tag, uint32_t word)
 {
-    return pack_copy(VALID, tag, word, job->state.memory[word]);
+    return pack_copy(VALID, tag, word, (uint32_t)job->state[STIRNFELD_MEMORY + word]);
 }
 
 /* Any number but 0. */
@@ -102,7 +101,7 @@ static uint32_t draw_some(struct dice *dice)
 
 static uint32_t another_processor(const struct job *job, struct dice *dice, uint32_t p)
 {
-    uint32_t processors = (uint32_t)job->dimensions[0];
+    uint32_t processors = (uint32_t)job->state[STIRNFELD_PROCESSORS];
     return (p + roll_from(dice, 1, processors - 1)) % processors;
 }
 
@@ -114,10 +113,11 @@ static bool wrong_dimension(struct job *job, struct dice *dice)
                                               MAX_ENTRIES};
     static const uint64_t no_power[] = {3, 5, 6, 7, 9, 12, 33, 48, 63};
     uint32_t which = roll_below(dice, DIMENSIONS);
+    size_t place = STIRNFELD_PROCESSORS + which;
     uint64_t wrong[] = {0, most[which] + 1, 2 * most[which],
-                        job->dimensions[which] + (1ull << roll_from(dice, 32, 63)),
+                        job->state[place] + (1ull << roll_from(dice, 32, 63)),
                         roll(dice) | 1ull << 63, no_power[roll_below(dice, 9)]};
-    job->dimensions[which] = wrong[roll_below(dice, which == 2 ? 6 : 5)];
+    job->state[place] = wrong[roll_below(dice, which == 2 ? 6 : 5)];
     return true;
 }
 
@@ -133,10 +133,10 @@ static bool too_many_bits(struct job *job, struct dice *dice)
 static bool word_out_of_range(struct job *job, struct dice *dice)
 {
     struct spot spot = pick(job, dice, IN_BOTH, is_held);
-    if (spot.copy == NULL || job->dimensions[1] == MAX_WORDS)
+    if (spot.copy == NULL || job->state[STIRNFELD_WORDS] == MAX_WORDS)
         return false;
-    uint32_t word = roll_from(dice, (uint32_t)job->dimensions[1], MAX_WORDS - 1);
-    if (spot.line && word % job->dimensions[2] != spot.i)
+    uint32_t word = roll_from(dice, (uint32_t)job->state[STIRNFELD_WORDS], MAX_WORDS - 1);
+    if (spot.line && word % job->state[STIRNFELD_LINES] != spot.i)
         return false;
     uint64_t copy = *spot.copy;
     *spot.copy = pack_copy(copy_state(copy), copy_tag(copy), word, copy_data(copy));
@@ -146,10 +146,11 @@ static bool word_out_of_range(struct job *job, struct dice *dice)
 static bool another_lines_word(struct job *job, struct dice *dice)
 {
     struct spot spot = pick(job, dice, IN_LINES, is_held);
-    uint32_t word = roll_below(dice, (uint32_t)job->dimensions[1]);
-    if (spot.copy == NULL || word % job->dimensions[2] == spot.i)
+    uint32_t word = roll_below(dice, (uint32_t)job->state[STIRNFELD_WORDS]);
+    if (spot.copy == NULL || word % job->state[STIRNFELD_LINES] == spot.i)
         return false;
-    *spot.copy = pack_copy(copy_state(*spot.copy), NO_TAG, word, job->state.memory[word]);
+    *spot.copy = pack_copy(copy_state(*spot.copy), NO_TAG, word,
+                           (uint32_t)job->state[STIRNFELD_MEMORY + word]);
     return true;
 }
 
@@ -201,8 +202,8 @@ static bool word_in_both_caches(struct job *job, struct dice *dice)
     if (held.copy == NULL)
         return false;
     uint32_t word = copy_word(*held.copy);
-    uint32_t index = word % (uint32_t)job->dimensions[2];
-    job->state.lines[copy_place(held.p, index)] = valid_copy(job, NO_TAG, word);
+    uint32_t index = word % (uint32_t)job->state[STIRNFELD_LINES];
+    job->state[line_place(held.p, index)] = valid_copy(job, NO_TAG, word);
     return true;
 }
 
@@ -229,8 +230,8 @@ static bool backup_of_normal(struct job *job, struct dice *dice)
 
 static struct spot tentative_of(struct job *job, const struct spot *backup)
 {
-    for (uint32_t i = 0; i < job->dimensions[3]; i++) {
-        uint64_t *copy = &job->state.entries[copy_place(backup->p, i)];
+    for (uint32_t i = 0; i < job->state[STIRNFELD_ENTRIES]; i++) {
+        uint64_t *copy = &job->state[entry_place(backup->p, i)];
         if (is_tentative(*copy) && copy_word(*copy) == copy_word(*backup->copy))
             return (struct spot){copy, backup->p, i, false};
     }
@@ -251,7 +252,7 @@ static bool tentative_without_tactive(struct job *job, struct dice *dice)
     struct spot spot = pick(job, dice, IN_ENTRIES, is_tentative);
     if (spot.copy == NULL)
         return false;
-    job->state.flags[spot.p] = 0;
+    job->state[STIRNFELD_TACTIVE + spot.p] = 0;
     return true;
 }
 
@@ -260,14 +261,14 @@ static bool tentative_without_tstatus(struct job *job, struct dice *dice)
     struct spot spot = pick(job, dice, IN_ENTRIES, is_tentative);
     if (spot.copy == NULL)
         return false;
-    job->state.flags[MAX_PROCESSORS + spot.p] = 0;
+    job->state[STIRNFELD_TSTATUS + spot.p] = 0;
     return true;
 }
 
 static bool owned_and_shared(struct job *job, struct dice *dice)
 {
     struct spot spot = pick(job, dice, IN_BOTH, is_owned);
-    if (spot.copy == NULL || job->dimensions[0] == 1)
+    if (spot.copy == NULL || job->state[STIRNFELD_PROCESSORS] == 1)
         return false;
     uint32_t p = another_processor(job, dice, spot.p);
     struct spot other = pick_of(job, dice, IN_ENTRIES, is_free, p);
@@ -280,7 +281,7 @@ static bool owned_and_shared(struct job *job, struct dice *dice)
 static bool shared_becomes_owned(struct job *job, struct dice *dice)
 {
     struct spot one = pick(job, dice, IN_BOTH, agrees_with_memory);
-    if (one.copy == NULL || job->dimensions[0] == 1)
+    if (one.copy == NULL || job->state[STIRNFELD_PROCESSORS] == 1)
         return false;
     uint32_t p = another_processor(job, dice, one.p);
     struct spot other = pick_of(job, dice, IN_BOTH, agrees_with_memory, p);
@@ -304,7 +305,7 @@ static bool memory_not_the_datas(struct job *job, struct dice *dice)
     struct spot spot = pick(job, dice, IN_BOTH, agrees_with_memory);
     if (spot.copy == NULL)
         return false;
-    job->state.memory[copy_word(*spot.copy)] ^= draw_some(dice);
+    job->state[STIRNFELD_MEMORY + copy_word(*spot.copy)] ^= draw_some(dice);
     return true;
 }
 
@@ -320,11 +321,30 @@ static bool backup_above(struct job *job, struct dice *dice)
     return true;
 }
 
+static size_t any_flag(struct dice *dice, uint32_t p)
+{
+    return (roll_one_in(dice, 2) ? STIRNFELD_TACTIVE : STIRNFELD_TSTATUS) + p;
+}
+
 static bool flag_above_one(struct job *job, struct dice *dice)
 {
-    uint32_t p = roll_below(dice, (uint32_t)job->dimensions[0]);
-    uint32_t place = roll_one_in(dice, 2) ? p : MAX_PROCESSORS + p;
-    job->state.flags[place] = roll_one_in(dice, 2) ? 2 : roll_from(dice, 2, 255);
+    uint32_t p = roll_below(dice, (uint32_t)job->state[STIRNFELD_PROCESSORS]);
+    job->state[any_flag(dice, p)] = roll_one_in(dice, 2) ? 2 : roll_from(dice, 2, 255);
+    return true;
+}
+
+/* Its lowest byte alone would be right. */
+static bool flag_above_a_byte(struct job *job, struct dice *dice)
+{
+    uint32_t p = roll_below(dice, (uint32_t)job->state[STIRNFELD_PROCESSORS]);
+    job->state[any_flag(dice, p)] |= 1ull << roll_from(dice, 8, 63);
+    return true;
+}
+
+static bool memory_above_a_word(struct job *job, struct dice *dice)
+{
+    uint32_t word = roll_below(dice, (uint32_t)job->state[STIRNFELD_WORDS]);
+    job->state[STIRNFELD_MEMORY + word] |= 1ull << roll_from(dice, 32, 63);
     return true;
 }
 
@@ -337,37 +357,57 @@ static bool line_with_tag(struct job *job, struct dice *dice)
     return true;
 }
 
+/* Any number but 0, of all the bits of a place. */
+static uint64_t draw_any(struct dice *dice)
+{
+    uint64_t bit = 1ull << roll_below(dice, 64);
+    return roll_one_in(dice, 2) ? bit : roll(dice) | bit;
+}
+
 static bool memory_outside(struct job *job, struct dice *dice)
 {
-    if (job->dimensions[1] == MAX_WORDS)
+    if (job->state[STIRNFELD_WORDS] == MAX_WORDS)
         return false;
-    uint32_t word = roll_from(dice, (uint32_t)job->dimensions[1], MAX_WORDS - 1);
-    job->state.memory[word] = draw_some(dice);
+    uint32_t word = roll_from(dice, (uint32_t)job->state[STIRNFELD_WORDS], MAX_WORDS - 1);
+    job->state[STIRNFELD_MEMORY + word] = draw_any(dice);
     return true;
 }
 
 static bool flag_outside(struct job *job, struct dice *dice)
 {
-    if (job->dimensions[0] == MAX_PROCESSORS)
+    uint32_t processors = (uint32_t)job->state[STIRNFELD_PROCESSORS];
+    if (processors == MAX_PROCESSORS)
         return false;
-    uint32_t p = roll_from(dice, (uint32_t)job->dimensions[0], MAX_PROCESSORS - 1);
-    job->state.flags[roll_one_in(dice, 2) ? p : MAX_PROCESSORS + p] =
-        roll_one_in(dice, 2) ? 1 : roll_from(dice, 1, 255);
+    uint32_t p = roll_from(dice, processors, MAX_PROCESSORS - 1);
+    job->state[any_flag(dice, p)] = roll_one_in(dice, 2) ? 1 : draw_any(dice);
+    return true;
+}
+
+/* A place that no dimensions reach. */
+static bool kept_place(struct job *job, struct dice *dice)
+{
+    static const struct dimensions largest = {MAX_PROCESSORS, MAX_WORDS, MAX_LINES,
+                                              MAX_ENTRIES};
+    uint32_t bound = roll_one_in(dice, 2) ? STIRNFELD_MEMORY : STIRNFELD_STATE;
+    uint32_t place = roll_below(dice, bound);
+    if (is_reached(&largest, place))
+        return false;
+    job->state[place] = draw_any(dice);
     return true;
 }
 
 /* A copy that would be sound in a place that is one of the state's. */
 static bool copy_outside(struct job *job, struct dice *dice, bool line)
 {
-    uint64_t *copies = line ? job->state.lines : job->state.entries;
     uint32_t p = roll_below(dice, MAX_PROCESSORS);
-    uint32_t i = roll_below(dice, 64);
-    if (p < job->dimensions[0] && i < job->dimensions[line ? 2 : 3])
+    uint32_t i = roll_below(dice, STIRNFELD_STRIDE);
+    struct dimensions d = unpack_dimensions(job->state);
+    size_t place = line ? line_place(p, i) : entry_place(p, i);
+    if (is_reached(&d, place))
         return false;
-    uint32_t word = roll_below(dice, (uint32_t)job->dimensions[1]);
-    copies[copy_place(p, i)] = roll_one_in(dice, 4)
-                                   ? draw_some(dice)
-                                   : valid_copy(job, line ? NO_TAG : NORMAL, word);
+    uint32_t word = roll_below(dice, d.words);
+    job->state[place] = roll_one_in(dice, 4) ? draw_any(dice)
+                                             : valid_copy(job, line ? NO_TAG : NORMAL, word);
     return true;
 }
 
@@ -394,32 +434,28 @@ static bool other_dirty_data(struct job *job, struct dice *dice)
 
 static bool other_flags(struct job *job, struct dice *dice)
 {
-    uint32_t p = roll_below(dice, (uint32_t)job->dimensions[0]);
+    uint32_t p = roll_below(dice, (uint32_t)job->state[STIRNFELD_PROCESSORS]);
     if (pick_of(job, dice, IN_ENTRIES, is_tentative, p).copy != NULL)
         return false;
-    job->state.flags[p] = roll_below(dice, 2);
-    job->state.flags[MAX_PROCESSORS + p] = roll_below(dice, 2);
+    job->state[STIRNFELD_TACTIVE + p] = roll_below(dice, 2);
+    job->state[STIRNFELD_TSTATUS + p] = roll_below(dice, 2);
     return true;
 }
 
 static bool bound_by_memory(const struct job *job, uint32_t word)
 {
-    for (size_t i = 0; i < MAX_PROCESSORS * MAX_LINES; i++) {
-        uint64_t line = job->state.lines[i];
-        uint64_t entry = job->state.entries[i];
-        if ((agrees_with_memory(line) && copy_word(line) == word) ||
-            (agrees_with_memory(entry) && copy_word(entry) == word))
+    for (size_t i = line_place(0, 0); i < entry_place(MAX_PROCESSORS, 0); i++)
+        if (agrees_with_memory(job->state[i]) && copy_word(job->state[i]) == word)
             return true;
-    }
     return false;
 }
 
 static bool other_memory(struct job *job, struct dice *dice)
 {
-    uint32_t word = roll_below(dice, (uint32_t)job->dimensions[1]);
+    uint32_t word = roll_below(dice, (uint32_t)job->state[STIRNFELD_WORDS]);
     if (bound_by_memory(job, word))
         return false;
-    job->state.memory[word] ^= draw_some(dice);
+    job->state[STIRNFELD_MEMORY + word] ^= draw_some(dice);
     return true;
 }
 
@@ -473,6 +509,8 @@ const struct change changes[] = {
     {"a dimension out of range", false, wrong_dimension},
     {"a copy of 2^44 or more", false, too_many_bits},
     {"a flag above 1", false, flag_above_one},
+    {"a flag above 255", false, flag_above_a_byte},
+    {"a word of memory of 2^32 or more", false, memory_above_a_word},
     {"a copy of a word that is not there", false, word_out_of_range},
     {"a line with another line's word", false, another_lines_word},
     {"a line with a tag", false, line_with_tag},
@@ -495,6 +533,7 @@ const struct change changes[] = {
     {"a flag outside the dimensions", false, flag_outside},
     {"a line outside the dimensions", false, line_outside},
     {"an entry outside the dimensions", false, entry_outside},
+    {"a place that is kept", false, kept_place},
     {"no change", true, nothing},
     {"other DIRTY data", true, other_dirty_data},
     {"other flags without a tentative entry", true, other_flags},

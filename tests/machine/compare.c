@@ -8,7 +8,7 @@
 const struct terms terms = {"job", "step", "machine"};
 struct reply ours, twin;
 
-static size_t answers[ANSWERS];
+static size_t answers[ANSWER_REFUSED];
 static size_t refusals[REFUSED_LENGTH + 1];
 
 bool differ(const struct job *job)
@@ -22,10 +22,12 @@ bool differ(const struct job *job)
 static size_t count(const struct job *job, const struct reply *reply)
 {
     refusals[reply->refusal]++;
-    if (job->kind == JOB_STEP) {
-        answers[reply->answer]++;
-        return reply->refusal == NOT_REFUSED;
+    if (job->kind == JOB_STEP && reply->refusal == NOT_REFUSED) {
+        answers[reply->told[0]]++;
+        return 1;
     }
+    if (job->kind != JOB_RUN)
+        return 0;
     for (size_t i = 0; i < reply->taken; i++)
         answers[reply->written.answers[i]]++;
     return reply->taken;

@@ -11,17 +11,11 @@ static void make_fresh(struct machine *machine, struct dice *dice,
     machine_make(machine, dimensions, memory, dimensions.words);
 }
 
-static void hand_in(struct job *job, const struct machine *machine)
-{
-    pack_dimensions(job->dimensions, machine->dimensions);
-    pack_state(&job->state, machine);
-}
-
 void draw_fresh(struct job *job, struct dice *dice, struct dimensions dimensions)
 {
     struct machine machine;
     make_fresh(&machine, dice, dimensions);
-    hand_in(job, &machine);
+    pack_state(job->state, &machine);
 }
 
 void draw_reached(struct job *job, struct dice *dice, struct dimensions dimensions)
@@ -34,7 +28,7 @@ void draw_reached(struct job *job, struct dice *dice, struct dimensions dimensio
         struct drawn_step s = draw_step(&mood, dice);
         machine_step(&machine, s.step, s.core, s.word, s.value);
     }
-    hand_in(job, &machine);
+    pack_state(job->state, &machine);
 }
 
 static void fill(void *bytes, size_t size, struct dice *dice)
@@ -62,7 +56,7 @@ void draw_run(struct job *job, struct dice *dice, const struct mood *mood, size_
  * does not matter. */
 void draw_use(struct job *job, struct dice *dice, enum job_kind kind)
 {
-    struct dimensions d = unpack_dimensions(job->dimensions);
+    struct dimensions d = unpack_dimensions(job->state);
     if (dimensions_refusal(&d) != NOT_REFUSED)
         d = (struct dimensions){1, 1, 1, 1};
     struct mood mood;

@@ -1,14 +1,15 @@
-/* A job for the proved machine and its reply, byte for byte as they are sent to
- * its driver (crates/trial) and back: every number is little-endian, and there is
- * no padding. */
+/* A job for both machines, and what one replies. There is no padding, so that two
+ * of them are the same where their bytes are. */
 #ifndef JOB_H
 #define JOB_H
 
 #include <assert.h>
 
 #include "machine.h"
+#include "stirnfeld.h"
 
-enum job_kind { JOB_MAKE = 1, JOB_SOUND, JOB_SETTLED, JOB_STEP, JOB_RUN };
+/* One for each function of include/stirnfeld.h. */
+enum job_kind { JOB_MAKE = 1, JOB_SOUND, JOB_SETTLE, JOB_STEP, JOB_RUN };
 
 enum { DIMENSIONS = 4, PLACES = 64, COLUMNS = 12 };
 
@@ -16,16 +17,6 @@ enum { DIMENSIONS = 4, PLACES = 64, COLUMNS = 12 };
 enum column {
     COLUMN_STEPS, COLUMN_CORES, COLUMN_WORDS, COLUMN_VALUES,
     COLUMN_ANSWERS, COLUMN_RESULTS, COLUMN_COUNTS
-};
-
-/* Processor p's line or entry i stands at p * 64 + i. A copy is its data, then
- * from bit 32 its word, from bit 40 its tag and from bit 42 its state; a line
- * has no tag. TACTIVE of p is flag p, and TSTATUS flag 8 + p. */
-struct state {
-    uint32_t memory[MAX_WORDS];
-    uint64_t lines[MAX_PROCESSORS * MAX_LINES];
-    uint64_t entries[MAX_PROCESSORS * MAX_ENTRIES];
-    uint8_t flags[2 * MAX_PROCESSORS];
 };
 
 struct read_columns {
@@ -41,36 +32,35 @@ struct written_columns {
     uint32_t counts[CYCLES][PLACES];
 };
 
-/* A making takes its dimensions and its memory from the state. */
+/* A making has dimensions and memory of its own; the state is then what the array
+ * holds before. */
 struct job {
     uint64_t kind;
     uint64_t dimensions[DIMENSIONS];
     uint64_t memory_length;
+    uint32_t memory[MAX_WORDS];
     uint64_t step;
     uint64_t core;
     uint64_t word;
     uint64_t value;
     uint64_t lengths[COLUMNS];
-    struct state state;
+    uint64_t state[STIRNFELD_STATE];
     struct read_columns read;
     struct written_columns written;
 };
 
-/* What a function does not hand back is 0; a state and columns that it does not
- * hand back are as they came. */
+/* A state and columns that are not handed back are as they came, and all else is
+ * noise. */
 struct reply {
     uint64_t refusal;
-    uint64_t answer;
-    uint64_t value;
-    uint64_t sound;
     uint64_t taken;
-    uint64_t counts[CYCLES];
-    uint64_t dimensions[DIMENSIONS];
-    struct state state;
+    uint32_t told[STIRNFELD_TOLD];
+    uint32_t settled[STIRNFELD_SETTLED];
+    uint64_t state[STIRNFELD_STATE];
     struct written_columns written;
 };
 
-static_assert(sizeof(struct job) == 11904, "a job has no padding");
-static_assert(sizeof(struct reply) == 11208, "a reply has no padding");
+static_assert(sizeof(struct job) == 20080, "a job has no padding");
+static_assert(sizeof(struct reply) == 19312, "a reply has no padding");
 
 #endif

@@ -2,35 +2,31 @@
 
 #include <string.h>
 
-#include "pack.h"
+enum { NOISE = 0xA5 };
 
 /* The reply of a function that hands nothing back. */
 static void reply_as_it_came(struct reply *reply, const struct job *job)
 {
-    memset(reply, 0, sizeof *reply);
-    memcpy(reply->dimensions, job->dimensions, sizeof reply->dimensions);
-    reply->state = job->state;
+    memset(reply, NOISE, sizeof *reply);
+    memcpy(reply->state, job->state, sizeof reply->state);
     reply->written = job->written;
+}
+
+static job_function *function_for(const struct job_functions *functions, enum job_kind kind)
+{
+    switch (kind) {
+    case JOB_MAKE: return functions->make;
+    case JOB_SOUND: return functions->sound;
+    case JOB_SETTLE: return functions->settle;
+    case JOB_STEP: return functions->step;
+    case JOB_RUN: break;
+    }
+    return functions->run;
 }
 
 void reply_by(const struct job_functions *functions, const struct job *job,
               struct reply *reply)
 {
     reply_as_it_came(reply, job);
-    switch ((enum job_kind)job->kind) {
-    case JOB_MAKE: functions->make(job, reply); break;
-    case JOB_SOUND: functions->sound(job, reply); break;
-    case JOB_SETTLED: functions->settled(job, reply); break;
-    case JOB_STEP: functions->step(job, reply); break;
-    case JOB_RUN: functions->run(job, reply); break;
-    }
-}
-
-void reply_smallest(struct reply *reply)
-{
-    static const uint32_t zero[1];
-    struct machine machine;
-    machine_make(&machine, (struct dimensions){1, 1, 1, 1}, zero, 1);
-    pack_dimensions(reply->dimensions, machine.dimensions);
-    pack_state(&reply->state, &machine);
+    reply->refusal = function_for(functions, (enum job_kind)job->kind)(job, reply);
 }

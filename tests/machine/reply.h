@@ -4,21 +4,20 @@
 
 #include "job.h"
 
-typedef void job_function(const struct job *job, struct reply *reply);
+/* Says with what the job is refused, or 0, and writes into the reply what is
+ * handed back. */
+typedef uint8_t job_function(const struct job *job, struct reply *reply);
 
-/* One for each kind of job. Each writes into the reply what it hands back. */
+/* One for each kind of job. */
 struct job_functions {
     job_function *make;
     job_function *sound;
-    job_function *settled;
+    job_function *settle;
     job_function *step;
     job_function *run;
 };
 
 void reply_by(const struct job_functions *functions, const struct job *job,
               struct reply *reply);
-
-/* A refused making hands back the smallest machine. */
-void reply_smallest(struct reply *reply);
 
 #endif

@@ -47,20 +47,24 @@ static bool shrink_steps(struct job *job, bool (*differ)(const struct job *job))
     return shorter;
 }
 
+/* All but the dimensions and the flags. */
 static bool shrink_state(struct job *job, bool (*differ)(const struct job *job))
 {
     bool shorter = false;
-    for (size_t i = 0; i < MAX_PROCESSORS * MAX_LINES; i++) {
+    for (size_t place = STIRNFELD_MEMORY; place < STIRNFELD_STATE; place++) {
         struct job trial = *job;
-        trial.state.lines[i] = 0;
-        shorter |= keep(job, &trial, differ);
-        trial = *job;
-        trial.state.entries[i] = 0;
+        trial.state[place] = 0;
         shorter |= keep(job, &trial, differ);
     }
-    for (size_t w = 0; w < MAX_WORDS; w++) {
+    return shorter;
+}
+
+static bool shrink_memory(struct job *job, bool (*differ)(const struct job *job))
+{
+    bool shorter = false;
+    for (size_t w = 0; job->kind == JOB_MAKE && w < MAX_WORDS; w++) {
         struct job trial = *job;
-        trial.state.memory[w] = 0;
+        trial.memory[w] = 0;
         shorter |= keep(job, &trial, differ);
     }
     return shorter;
@@ -72,5 +76,6 @@ void shrink(struct job *job, bool (*differ)(const struct job *job))
     while (shorter) {
         shorter = shrink_steps(job, differ);
         shorter |= shrink_state(job, differ);
+        shorter |= shrink_memory(job, differ);
     }
 }

@@ -6,5 +6,6 @@ void test_making(void);
 void test_stepping(void);
 void test_running(void);
 void test_soundness(void);
+void test_long(void);
 
 #endif

@@ -3,10 +3,13 @@
 #include "draw.h"
 #include "suites.h"
 
+/* What the array holds before is anything, and a refusal keeps it. */
 static void draw_memory(struct job *job, struct dice *dice)
 {
     for (uint32_t w = 0; w < MAX_WORDS; w++)
-        job->state.memory[w] = draw_value(dice);
+        job->memory[w] = draw_value(dice);
+    for (size_t place = 0; place < STIRNFELD_STATE; place++)
+        job->state[place] = roll(dice);
 }
 
 static void make_every_size(uint64_t seed)

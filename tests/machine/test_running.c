@@ -1,4 +1,6 @@
 /* Runs over lent columns. */
+#include <string.h>
+
 #include "compare.h"
 #include "draw.h"
 #include "pack.h"
@@ -9,7 +11,7 @@ static void compare_run(struct job *job, struct dice *dice, size_t length,
                         struct reply *reply)
 {
     struct mood mood;
-    draw_mood(&mood, dice, unpack_dimensions(job->dimensions));
+    draw_mood(&mood, dice, unpack_dimensions(job->state));
     draw_run(job, dice, &mood, length);
     compare(job, reply);
 }
@@ -48,14 +50,17 @@ static void runs_of_every_size(uint64_t seed)
  * machine handed back last. */
 static void long_trace(struct dice *dice, struct dimensions dimensions, int runs)
 {
-    struct job job = {0};
+    struct job job = {
+        .kind = JOB_MAKE,
+        .dimensions = {dimensions.processors, dimensions.words, dimensions.lines,
+                       dimensions.entries},
+        .memory_length = dimensions.words};
     struct reply reply;
-    draw_fresh(&job, dice, dimensions);
-    job.kind = JOB_MAKE;
-    job.memory_length = dimensions.words;
+    for (uint32_t w = 0; w < dimensions.words; w++)
+        job.memory[w] = draw_value(dice);
     compare(&job, &reply);
     for (int i = 0; i < runs; i++) {
-        job.state = reply.state;
+        memcpy(job.state, reply.state, sizeof job.state);
         compare_run(&job, dice, PLACES, &reply);
     }
 }
@@ -91,7 +96,7 @@ static void empty_runs(uint64_t seed)
         for (int column = 0; column < COLUMNS; column++)
             job.lengths[column] = 0;
         if (roll_one_in(&dice, 3))
-            job.state.flags[0] = 2; /* REFUSED_STATE */
+            job.state[STIRNFELD_TACTIVE] = 2; /* REFUSED_STATE */
         if (roll_one_in(&dice, 3))
             job.lengths[roll_below(&dice, COLUMNS)] = 1; /* REFUSED_COLUMNS */
         compare(&job, &reply);
@@ -101,11 +106,12 @@ static void empty_runs(uint64_t seed)
 static void spoil_step(struct job *job, struct dice *dice, uint32_t at)
 {
     struct read_columns *read = &job->read;
+    struct dimensions d = unpack_dimensions(job->state);
     switch (roll_below(dice, 3)) {
     case 0: read->steps[at] = roll_from(dice, INSTRUCTIONS, 255); break;
-    case 1: read->cores[at] = roll_from(dice, (uint32_t)job->dimensions[0], 255); break;
+    case 1: read->cores[at] = roll_from(dice, d.processors, 255); break;
     default:
-        read->words[at] = roll_from(dice, (uint32_t)job->dimensions[1], UINT32_MAX);
+        read->words[at] = roll_from(dice, d.words, UINT32_MAX);
         break;
     }
 }
@@ -140,7 +146,7 @@ static void unequal_columns(uint64_t seed)
         uint64_t *length = &job.lengths[i % COLUMNS];
         *length = roll_one_in(&dice, 2) ? *length + 1 : roll_below(&dice, PLACES + 1);
         if (roll_one_in(&dice, 4))
-            job.state.flags[0] = 3;
+            job.state[STIRNFELD_TACTIVE] = 3;
         if (roll_one_in(&dice, 4))
             spoil_step(&job, &dice, 0);
         compare(&job, &reply);

@@ -1,4 +1,6 @@
 /* Single steps, and settled values. */
+#include <string.h>
+
 #include "compare.h"
 #include "draw.h"
 #include "suites.h"
@@ -16,13 +18,6 @@ static void steps_from_reached(uint64_t seed)
             compare(&job, &reply);
         }
     }
-}
-
-static void hand_in_again(struct job *job, const struct reply *reply)
-{
-    for (int i = 0; i < DIMENSIONS; i++)
-        job->dimensions[i] = reply->dimensions[i];
-    job->state = reply->state;
 }
 
 static void steps_in_turn(uint64_t seed)
@@ -43,7 +38,7 @@ static void steps_in_turn(uint64_t seed)
             job.word = s.word;
             job.value = s.value;
             compare(&job, &reply);
-            hand_in_again(&job, &reply);
+            memcpy(job.state, reply.state, sizeof job.state);
         }
     }
 }
@@ -56,44 +51,27 @@ static void refused_steps(uint64_t seed)
     struct job job = {0};
     struct reply reply;
     for (int i = 0; i < 1000; i++) {
-        draw_reached(&job, &dice, draw_any_dimensions(&dice));
+        struct dimensions d = draw_any_dimensions(&dice);
+        draw_reached(&job, &dice, d);
         draw_use(&job, &dice, JOB_STEP);
         if (roll_one_in(&dice, 3))
             job.step = roll_one_in(&dice, 2) ? INSTRUCTIONS : roll_from(&dice, 9, 255);
         if (roll_one_in(&dice, 3))
-            job.core = roll_one_in(&dice, 2) ? job.dimensions[0]
-                                             : roll_from(&dice, job.dimensions[0], 255);
+            job.core = roll_one_in(&dice, 2) ? d.processors : roll_from(&dice, d.processors, 255);
         if (roll_one_in(&dice, 2))
-            job.word = roll_one_in(&dice, 2)
-                           ? job.dimensions[1]
-                           : roll_from(&dice, job.dimensions[1], UINT32_MAX);
+            job.word = roll_one_in(&dice, 2) ? d.words : roll_from(&dice, d.words, UINT32_MAX);
         compare(&job, &reply);
-    }
-}
-
-static void settled_words(struct job *job, uint32_t words)
-{
-    struct reply reply;
-    job->kind = JOB_SETTLED;
-    for (uint32_t word = 0; word <= words; word++) {
-        job->word = word;
-        compare(job, &reply);
-    }
-    static const uint32_t beyond[] = {255, 256, 257, 512, 65536, UINT32_MAX};
-    for (size_t i = 0; i < sizeof beyond / sizeof beyond[0]; i++) {
-        job->word = beyond[i];
-        compare(job, &reply);
     }
 }
 
 static void settled_values(uint64_t seed)
 {
     struct dice dice = {seed};
-    struct job job = {0};
-    for (int i = 0; i < 120; i++) {
-        struct dimensions dimensions = draw_dimensions(&dice, i % 20 == 0 ? LARGE : i % 3);
-        draw_reached(&job, &dice, dimensions);
-        settled_words(&job, dimensions.words);
+    struct job job = {.kind = JOB_SETTLE};
+    struct reply reply;
+    for (int i = 0; i < 1000; i++) {
+        draw_reached(&job, &dice, draw_dimensions(&dice, i % SIZES));
+        compare(&job, &reply);
     }
 }
 

@@ -5,71 +5,58 @@
 #include "run.h"
 #include "sound.h"
 
-static void hand_back(struct reply *reply, const struct machine *machine)
-{
-    pack_dimensions(reply->dimensions, machine->dimensions);
-    pack_state(&reply->state, machine);
-}
-
-static void make(const struct job *job, struct reply *reply)
+static uint8_t make(const struct job *job, struct reply *reply)
 {
     struct machine machine;
     struct dimensions dimensions = unpack_dimensions(job->dimensions);
-    reply->refusal =
-        machine_make(&machine, dimensions, job->state.memory, job->memory_length);
-    if (reply->refusal == NOT_REFUSED)
-        hand_back(reply, &machine);
-    else
-        reply_smallest(reply);
+    enum refusal refusal =
+        machine_make(&machine, dimensions, job->memory, job->memory_length);
+    if (refusal == NOT_REFUSED)
+        pack_state(reply->state, &machine);
+    return refusal;
 }
 
 /* The state of a job as the second program has it, and whether it is sound. */
 static bool hand_in(const struct job *job, struct machine *machine)
 {
-    unpack_state(machine, job->dimensions, &job->state);
+    unpack_state(machine, job->state);
     return dimensions_refusal(&machine->dimensions) == NOT_REFUSED &&
-           state_in_form(job->dimensions, &job->state) && machine_sound(machine);
+           state_in_form(job->state) && machine_sound(machine);
 }
 
-static void refuse(struct reply *reply, enum refusal refusal)
-{
-    reply->answer = ANSWER_REFUSED;
-    reply->refusal = refusal;
-}
-
-static void sound(const struct job *job, struct reply *reply)
+static uint8_t sound(const struct job *job, struct reply *reply)
 {
     struct machine machine;
-    reply->sound = hand_in(job, &machine);
+    (void)reply;
+    return hand_in(job, &machine) ? NOT_REFUSED : REFUSED_STATE;
 }
 
-static void settled(const struct job *job, struct reply *reply)
+static uint8_t settle(const struct job *job, struct reply *reply)
 {
     struct machine machine;
     if (!hand_in(job, &machine))
-        refuse(reply, REFUSED_STATE);
-    else if (job->word >= machine.dimensions.words)
-        refuse(reply, REFUSED_WORD);
-    else
-        reply->value = machine_settled(&machine, job->word);
+        return REFUSED_STATE;
+    for (uint32_t word = 0; word < MAX_WORDS; word++)
+        reply->settled[word] =
+            word < machine.dimensions.words ? machine_settled(&machine, word) : 0;
+    return NOT_REFUSED;
 }
 
-static void step(const struct job *job, struct reply *reply)
+static uint8_t step(const struct job *job, struct reply *reply)
 {
     struct machine machine;
-    if (!hand_in(job, &machine)) {
-        refuse(reply, REFUSED_STATE);
-        return;
-    }
+    if (!hand_in(job, &machine))
+        return REFUSED_STATE;
     struct answer answer =
         machine_step(&machine, job->step, job->core, job->word, job->value);
-    reply->answer = answer.kind;
-    reply->refusal = answer.refusal;
-    reply->value = answer.value;
+    if (answer.kind == ANSWER_REFUSED)
+        return answer.refusal;
+    reply->told[0] = answer.kind;
+    reply->told[1] = answer.value;
     for (int i = 0; i < CYCLES; i++)
-        reply->counts[i] = answer.counts[i];
-    if (answer.kind != ANSWER_REFUSED)
-        hand_back(reply, &machine);
+        reply->told[2 + i] = answer.counts[i];
+    pack_state(reply->state, &machine);
+    return NOT_REFUSED;
 }
 
 static void write_answers(struct written_columns *written, const struct answer *answers,
@@ -93,13 +80,12 @@ static size_t answers_length(const struct job *job)
     return job->lengths[COLUMN_ANSWERS];
 }
 
-static void run(const struct job *job, struct reply *reply)
+static uint8_t run(const struct job *job, struct reply *reply)
 {
     struct machine machine;
-    if (!hand_in(job, &machine)) {
-        reply->refusal = REFUSED_STATE;
-        return;
-    }
+    reply->taken = 0;
+    if (!hand_in(job, &machine))
+        return REFUSED_STATE;
     uint32_t steps[PLACES], cores[PLACES];
     for (int i = 0; i < PLACES; i++) {
         steps[i] = job->read.steps[i];
@@ -110,15 +96,15 @@ static void run(const struct job *job, struct reply *reply)
         steps, cores, job->read.words, job->read.values, answers,
         job->lengths[COLUMN_STEPS], job->lengths[COLUMN_CORES],
         job->lengths[COLUMN_WORDS], job->lengths[COLUMN_VALUES], answers_length(job)});
-    reply->refusal = ran.refusal;
     reply->taken = ran.taken;
     write_answers(&reply->written, answers, ran.taken);
-    hand_back(reply, &machine);
+    pack_state(reply->state, &machine);
+    return ran.refusal;
 }
 
 void twin_answer(const struct job *job, struct reply *reply)
 {
     static const struct job_functions functions = {
-        .make = make, .sound = sound, .settled = settled, .step = step, .run = run};
+        .make = make, .sound = sound, .settle = settle, .step = step, .run = run};
     reply_by(&functions, job, reply);
 }
