@@ -116,12 +116,9 @@ fn hit(
     ensures { λ r. ⌜ outcome r (returned memory lines entries flags) ≡ hit d op p i word v w1 w2 (lent memory lines entries flags) ⌝ }
 {
     let w = (w1 as u16) + (w2 as u16);
-    if op == LT {
-        return finish(entries, op, p, i, v, Counts::quiet(w));
-    }
     let j = place(p, i);
     let e = Entry::unpack(entries[j]);
-    if e.state != VALID {
+    if (op == LT) | (e.state != VALID) {
         return finish(entries, op, p, i, v, Counts::quiet(w));
     }
     if snoop::request(memory, lines, entries, d, p, word, T_RFO) {

@@ -1,26 +1,17 @@
 use mathlib.Core.Path.{ap}
 use mathlib.Core.List.{[]}
-use borrow.Author.Tests.{eq-eqb, ne-eqb}
 use denote.Ref.{now}
-use Rattle.rules.specs.State.{Caches}
+use lib.Dec.{eqb}
+use Rattle.entry.specs.Numbers.{VALID, LT}
+use Rattle.rules.specs.State.{Caches, copyAt}
 use Rattle.rules.specs.Transact.{finish, hit}
-use Rattle.transact.proofs.Asked.{refused, passed}
+use Rattle.transact.proofs.Asked.{silent, asks, refused, passed}
 use borrow.Author.Needs.{needs}
 use Rattle.transact.proofs.hit.Statement.{statement}
 use Rattle.transact.proofs.hit.Tie as tie
 
 add-w : tie.Need-add-w
 add-w c = search needs
-
-quiet-requires : tie.Need-quiet-requires
-quiet-requires c κs = search needs
-
-finish-requires : tie.Need-finish-requires
-finish-requires c κs = search needs
-
-returns : tie.Need-returns
-unfolding hit
-returns c = rw (eq-eqb _ _ (c .before .before .before .if1 .taken), ← c .before .quiet .ensures) (c .finish .ensures _ _ _)
 
 place-requires : tie.Need-place-requires
 place-requires c κs = search needs
@@ -34,24 +25,21 @@ element-copy-out-unpack c = search needs
 unpack-requires : tie.Need-unpack-requires
 unpack-requires c κs = search needs
 
-quiet-requires-2 : tie.Need-quiet-requires-2
-quiet-requires-2 c κs = search needs
+quiet-requires : tie.Need-quiet-requires
+quiet-requires c κs = search needs
 
-finish-requires-2 : tie.Need-finish-requires-2
-finish-requires-2 c κs = search needs
+finish-requires : tie.Need-finish-requires
+finish-requires c κs = search needs
 
-returns-2 : tie.Need-returns-2
+returns : tie.Need-returns
 unfolding hit
-returns-2 c =
-    let state = c .before .before .before in
-    let placed = state .before .before .before .before in
-    let u = rw (placed .place .ensures) at (state .before .before .unpack .ensures) in
-    rw (
-      ne-eqb _ _ (placed .before .if1 .left),
-      ne-eqb _ _ (rw u at (state .if2 .taken)),
-      ← c .before .quiet2 .ensures,
-    )
-    (c .finish2 .ensures _ _ _)
+returns c =
+    let test = c .before .before .before in
+    let placed = test .before .before .before .before in
+    let u = rw (placed .place .ensures) at (test .before .before .unpack .ensures) in
+    let x = placed .before .args in
+    let valid = eqb (copyAt (now (x .entries)) (x .p) (x .i) .state) VALID in
+    rw (silent (eqb (x .op) LT) valid _ _ (rw u at (test .if1 .taken)), ← c .before .quiet .ensures) (c .finish .ensures _ _ _)
 
 request-requires : tie.Need-request-requires
 request-requires c κs = search needs
@@ -65,21 +53,24 @@ asked-requires c κs = search needs
 aborted-requires : tie.Need-aborted-requires
 aborted-requires c κs = search needs
 
-returns-3 : tie.Need-returns-3
+returns-2 : tie.Need-returns-2
 unfolding hit
-returns-3 c =
+returns-2 c =
     let asked = c .before .before .before .before .before in
     let answer = asked .before .request .ensures in
     let state = asked .before .before .before .before .before in
     let placed = state .before .before .before .before in
     let u = rw (placed .place .ensures) at (state .before .before .unpack .ensures) in
     let rolled = c .before .before .rollback .ensures in
-    let k = refused _ _ _ _ (answer .1 []) (asked .if3 .taken) in
+    let k = refused _ _ _ _ (answer .1 []) (asked .if2 .taken) in
+    let x = placed .before .args in
+    let valid = eqb (copyAt (now (x .entries)) (x .p) (x .i) .state) VALID in
+    let upgrade = asks (eqb (x .op) LT) valid (rw u at (state .if1 .left)) in
     rw (
-      ne-eqb _ _ (placed .before .if1 .left),
-      eq-eqb _ _ (rw u at (state .if2 .left)),
+      upgrade .0,
+      upgrade .1,
       ← answer .0,
-      asked .if3 .taken,
+      asked .if2 .taken,
       c .aborted .ensures,
       c .before .asked .ensures,
       rolled .0,
@@ -104,54 +95,47 @@ element-write-entries c = search needs
 asked-requires-2 : tie.Need-asked-requires-2
 asked-requires-2 c κs = search needs
 
-finish-requires-3 : tie.Need-finish-requires-3
-finish-requires-3 c κs = search needs
+finish-requires-2 : tie.Need-finish-requires-2
+finish-requires-2 c κs = search needs
 
-returns-4 : tie.Need-returns-4
+returns-3 : tie.Need-returns-3
 unfolding hit
-returns-4 c =
+returns-3 c =
     let asked = c .before .before .before .before .before in
     let answer = asked .before .request .ensures in
     let state = asked .before .before .before .before .before in
     let placed = state .before .before .before .before in
     let j = placed .place .ensures in
     let u = rw j at (state .before .before .unpack .ensures) in
-    let x = placed .before .before .args in
+    let x = placed .before .args in
     let k = rw (c .before .before .before .before .with-state .ensures, u) at (c .before .before .before .pack .ensures) in
-    let s = passed _ _ _ _ (answer .1 (now (x .flags))) (asked .if3 .left) in
-    rw (
-      ne-eqb _ _ (placed .before .if1 .left),
-      eq-eqb _ _ (rw u at (state .if2 .left)),
-      ← answer .0,
-      asked .if3 .left,
-      ← c .before .asked2 .ensures,
-    )
-    (rw (← s, ← k, ← j) (c .finish3 .ensures _ _ _))
+    let s = passed _ _ _ _ (answer .1 (now (x .flags))) (asked .if2 .left) in
+    let valid = eqb (copyAt (now (x .entries)) (x .p) (x .i) .state) VALID in
+    let upgrade = asks (eqb (x .op) LT) valid (rw u at (state .if1 .left)) in
+    rw (upgrade .0, upgrade .1, ← answer .0, asked .if2 .left, ← c .before .asked2 .ensures)
+    (rw (← s, ← k, ← j) (c .finish2 .ensures _ _ _))
 
 pub hit-spec : {M : Type 1} → statement M
 hit-spec =
     tie.close
     (tie.spec
     add-w
-    quiet-requires
-    finish-requires
-    returns
     place-requires
     mul-unpack
     element-copy-out-unpack
     unpack-requires
-    quiet-requires-2
-    finish-requires-2
-    returns-2
+    quiet-requires
+    finish-requires
+    returns
     request-requires
     rollback-requires
     asked-requires
     aborted-requires
-    returns-3
+    returns-2
     with-state-requires
     pack-requires
     mul-entries
     element-write-entries
     asked-requires-2
-    finish-requires-3
-    returns-4)
+    finish-requires-2
+    returns-3)
