@@ -47,7 +47,9 @@ fn stays(x: u64) -> bool
 // A backup or tentative copy whose tag is `gone` becomes invalid, one whose tag is `kept` NORMAL.
 fn ended(x: u64, gone: u8, kept: u8) -> u64
     requires { ⌜ (BACKUP ≤ gone) × (BACKUP ≤ kept) ⌝ }
-    ensures { λ r. ⌜ r ≡ pack (pick (eqb (unpack x .tag) gone) noEntry (pick (eqb (unpack x .tag) kept) (withTag (unpack x) NORMAL) (unpack x))) ⌝ }
+    ensures { λ r.
+        let e = unpack x in
+        ⌜ r ≡ pack (pick (eqb (e .tag) gone) noEntry (pick (eqb (e .tag) kept) (withTag e NORMAL) e)) ⌝ }
 {
     if stays(x) {
         return x;

@@ -131,7 +131,9 @@ pub(crate) fn fill(
     d: Dims,
     first: Place,
 ) -> Filled
-    ensures { λ r. ⌜ left r out memory lines entries flags ≡ fillOf (before s) d (going first (lent memory lines entries flags)) (before out) ⌝ }
+    ensures { λ r.
+        let from = going first (lent memory lines entries flags) in
+        ⌜ left r out memory lines entries flags ≡ fillOf (before s) d from (before out) ⌝ }
 {
     let room = out.len();
     let mut x = first;

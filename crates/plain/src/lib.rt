@@ -125,7 +125,8 @@ pub fn load(
 
 // Answers where the NORMAL entry then stands.
 fn roll_own(entries: &mut Copies, flags: &mut Flags, d: Dims, p: usize, word: u8) -> usize
-    ensures { λ r. ⌜ ((m l : List ℕ) → caches m l (after entries) (after flags) ≡ rollOwn d p word (caches m l (before entries) (before flags))) ⌝ }
+    ensures { λ r. ⌜ ((m l : List ℕ) →
+        caches m l (after entries) (after flags) ≡ rollOwn d p word (caches m l (before entries) (before flags))) ⌝ }
     ensures { λ r. ⌜ r ≡ findEntry (after entries) p (d .entries) NORMAL word ⌝ }
 {
     let own = caches::own_entry(entries, p, d.entries, word);

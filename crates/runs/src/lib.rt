@@ -28,7 +28,9 @@ fn columns_ok(
     t_rfo: &[u32],
     busy: &[u32],
 ) -> bool
-    ensures { λ r. ⌜ r ≡ columnsOk (lentSteps ops cores words values) (columnsOf answers results read rfo write «t_read» «t_rfo» busy .entry) ⌝ }
+    ensures { λ r.
+        let c = columnsOf answers results read rfo write «t_read» «t_rfo» busy in
+        ⌜ r ≡ columnsOk (lentSteps ops cores words values) (c .entry) ⌝ }
 {
     let n = ops.len();
     let a = also(n <= 65536, cores.len(), n);

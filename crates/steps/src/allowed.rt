@@ -110,7 +110,8 @@ pub(crate) fn transact(
 ) -> Answered
     ensures { λ r.
         let s = lent memory lines entries flags in
-        ⌜ outcome r (returned memory lines entries flags) ≡ allowed d step s (transact d op (step .core) (narrowed (step .word)) (step .value) s) ⌝ }
+        ⌜ outcome r (returned memory lines entries flags) ≡
+        allowed d step s (transact d op (step .core) (narrowed (step .word)) (step .value) s) ⌝ }
 {
     let k = operands_refusal(d, step);
     if k != ACCEPTED {
