@@ -21,6 +21,7 @@ use Rattle.entry.proofs.packed.is_live.Reads as is-live-reads
 use Rattle.entry.proofs.answer.Answer.number.Reads as number-reads
 use Rattle.entry.proofs.answer.Answer.value.Reads as value-reads
 use Rattle.entry.proofs.answer.Answer.refusal.Reads as refusal-reads
+use Rattle.entry.proofs.answer.Answer.is_refusal.Reads as is-refusal-reads
 use Rattle.entry.proofs.answer.Answered.refused.Reads as refused-reads
 use Rattle.entry.proofs.answer.Counts.cycles.Reads as cycles-reads
 
@@ -71,6 +72,9 @@ value-unique κs a r r' s s' p q = p ∙ sym q
 
 pub refusal-unique : OneAnswer refusal-reads.Post (λ κs r s. r)
 refusal-unique κs a r r' s s' p q = p ∙ sym q
+
+pub is-refusal-unique : OneAnswer is-refusal-reads.Post (λ κs r s. r)
+is-refusal-unique κs a r r' s s' p q = p ∙ sym q
 
 pub refused-unique : OneAnswer refused-reads.Post (λ κs r s. r)
 refused-unique κs a r r' s s' p q = p ∙ sym q

@@ -1,5 +1,6 @@
 -- Answers and cycle counts.
 use Prim.Native.Nat.{ℕ, _+_}
+use mathlib.Core.Bool.{Bool, true, false}
 use Prim.Native.String.{String}
 use lib.Dec.{eqb}
 use Rattle.laws.specs.Choice.{pick}
@@ -53,6 +54,16 @@ refusalNumber True = 0
 refusalNumber False = 0
 refusalNumber Aborted = 0
 refusalNumber (Refused n) = n
+
+abbrev pub isRefusal : Answer → Bool
+isRefusal (Value v) = false
+isRefusal Done = false
+isRefusal Success = false
+isRefusal Failure = false
+isRefusal True = false
+isRefusal False = false
+isRefusal Aborted = false
+isRefusal (Refused n) = true
 
 -- "Every answer carries six cycle counts: READ, RFO, WRITE, T_READ, T_RFO, BUSY."
 abbrev pub counts : ℕ → ℕ → ℕ → ℕ → ℕ → ℕ → Counts

@@ -6,7 +6,7 @@ use crate::numbers::T_READ;
 use crate::numbers::T_RFO;
 use crate::numbers::WRITE;
 ghost use mathlib.Core.Path.{_≡_};
-ghost use Rattle.entry.specs.Answer.{answerNumber, answerValue, refusalNumber, quiet, asked, cyclesOf, refusedBy};
+ghost use Rattle.entry.specs.Answer.{answerNumber, answerValue, refusalNumber, isRefusal, quiet, asked, cyclesOf, refusedBy};
 ghost use Prim.Native.Nat.{_+_};
 ghost use Rattle.laws.specs.Choice.{pick};
 
@@ -80,6 +80,21 @@ impl Answer {
             Answer::False => 0,
             Answer::Aborted => 0,
             Answer::Refused(n) => n,
+        }
+    }
+
+    pub fn is_refusal(self) -> bool
+        ensures { λ r. ⌜ r ≡ isRefusal self ⌝ }
+    {
+        match self {
+            Answer::Value(_) => false,
+            Answer::Done => false,
+            Answer::Success => false,
+            Answer::Failure => false,
+            Answer::True => false,
+            Answer::False => false,
+            Answer::Aborted => false,
+            Answer::Refused(_) => true,
         }
     }
 }

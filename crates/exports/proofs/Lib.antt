@@ -1,4 +1,6 @@
 pub mod Back
 mod Copied
+mod Leaving
+mod OneStep
 mod Tested
 pub mod Unique

@@ -9,38 +9,38 @@ use borrow.Author.Tests.{lt-ltb, le-ltb, ltb-false, eq-eqb, ne-eqb, eqb-true}
 use Rattle.laws.specs.Choice.{both, both-left, both-right}
 use Rattle.laws.specs.Search.{firstFrom, first-end, first-hit, first-miss, none-at, none-of}
 use Rattle.rules.specs.State.{trueFlag}
-use Rattle.exports.specs.Array.{flagsFrom, flagsEnd, memoryFrom, linesFrom, entriesEnd, stateEnd, above, noneAbove, mostValue, heldOk}
+use Rattle.exports.specs.Array.{flagsFrom, flagsEnd, memoryFrom, linesFrom, entriesEnd, stateEnd, exceeds, noneAbove, mostValue, heldOk}
 
 module _ (s : List ℕ) (most from to : ℕ) where
   abbrev pub found : ℕ
-  found = firstFrom (above most s) from (to - from)
+  found = firstFrom (exceeds most s) from (to - from)
 
   abbrev pub Same : ℕ → Type 0
-  Same i = firstFrom (above most s) i (to - i) ≡ found
+  Same i = firstFrom (exceeds most s) i (to - i) ≡ found
 
   pub above-hit : (i : ℕ) → i < to → most < getD s i 0 → Same i → noneAbove most from to s ≡ false
   unfolding noneAbove
-  above-hit i l h e = ne-eqb found to (λ k. omega (arith, k, e, first-hit (above most s) i to l (lt-ltb most (getD s i 0) h)))
+  above-hit i l h e = ne-eqb found to (λ k. omega (arith, k, e, first-hit (exceeds most s) i to l (lt-ltb most (getD s i 0) h)))
 
   pub above-miss : (i : ℕ) → i < to → getD s i 0 ≤ most → Same i → Same (i + 1)
-  above-miss i l h e = sym (first-miss (above most s) i to l (le-ltb most (getD s i 0) h)) ∙ e
+  above-miss i l h e = sym (first-miss (exceeds most s) i to l (le-ltb most (getD s i 0) h)) ∙ e
 
   pub above-end : (i : ℕ) → to ≤ i → i ≤ to → Same i → noneAbove most from to s ≡ true
   unfolding noneAbove
-  above-end i l h e = eq-eqb found to (omega (arith, e, first-end (above most s) i to l))
+  above-end i l h e = eq-eqb found to (omega (arith, e, first-end (exceeds most s) i to l))
 
   -- the test as a fact, and back
   pub none-above-at : from ≤ to → noneAbove most from to s ≡ true → (i : ℕ) → from ≤ i → i < to → getD s i 0 ≤ most
   unfolding noneAbove
   none-above-at h t i a b =
       ltb-false most (getD s i 0)
-      (none-at (above most s) from (to - from) (omega (arith, eqb-true found to t)) i a (omega arith))
+      (none-at (exceeds most s) from (to - from) (omega (arith, eqb-true found to t)) i a (omega arith))
 
   pub none-above-of : from ≤ to → ((i : ℕ) → from ≤ i → i < to → getD s i 0 ≤ most) → noneAbove most from to s ≡ true
   unfolding noneAbove
   none-above-of h f =
       eq-eqb found to
-      (omega (arith, none-of (above most s) from (to - from) (λ k a b. le-ltb most (getD s k 0) (f k a (omega arith)))))
+      (omega (arith, none-of (exceeds most s) from (to - from) (λ k a b. le-ltb most (getD s k 0) (f k a (omega arith)))))
 
 -- five tests as one: put together from either side, and what they say of each
 pub five-tests : (a b c d e : Bool) → both (both (both (both a b) c) d) e ≡ both a (both b (both c (both d e)))

@@ -58,12 +58,12 @@ arrayOf m =
     let lined = sets remembering linesFrom (m .lines) in
     sets lined entriesFrom (m .entries)
 
-abbrev pub above : ℕ → List ℕ → ℕ → Bool
-above most s i = ltb most (getD s i 0)
+abbrev pub exceeds : ℕ → List ℕ → ℕ → Bool
+exceeds most s i = ltb most (getD s i 0)
 
 -- no place from one up to another holds a number above most
 unfoldable pub noneAbove : ℕ → ℕ → ℕ → List ℕ → Bool
-noneAbove most from to s = eqb (firstFrom (above most s) from (to - from)) to
+noneAbove most from to s = eqb (firstFrom (exceeds most s) from (to - from)) to
 
 -- "an unsigned 32-bit value"
 abbrev pub mostValue : ℕ

@@ -1,2 +1,3 @@
 pub mod Array
 pub mod Handed
+pub mod One

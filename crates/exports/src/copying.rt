@@ -3,8 +3,6 @@
 use crate::places::FLAGS_FROM;
 use crate::places::MEMORY_FROM;
 use crate::places::State;
-use entry::answer::Answer;
-use entry::answer::Counts;
 use rules::Copies;
 use rules::Flags;
 use rules::Memory;
@@ -13,11 +11,9 @@ ghost use mathlib.Core.Bool.{true};
 ghost use Prim.Native.Nat.{_+_, _≤_};
 ghost use lib.ListN.{length};
 ghost use lib.Seq.{sets};
-ghost use Rattle.entry.specs.Answer.{answered};
 ghost use Rattle.rules.specs.State.{trueFlag};
 ghost use Rattle.rules.specs.Lent.{before, after};
 ghost use Rattle.exports.specs.Array.{flagsFrom, flagsEnd, memoryFrom, linesFrom, stateEnd, part, noneAbove, mostValue};
-ghost use Rattle.exports.specs.Handed.{toldBy};
 
 fn narrow_value(x: u64) -> u32
     requires { ⌜ x ≤ mostValue ⌝ }
@@ -115,19 +111,4 @@ pub(crate) fn put_copies(state: &mut State, from: usize, whole: &Copies)
         state[from + i] = whole[i];
         i += 1;
     }
-}
-
-pub(crate) fn put_told(told: &mut [u32; 8], answer: Answer, counts: Counts)
-    ensures { λ r. ⌜ after told ≡ toldBy (answered answer counts) ⌝ }
-{
-    *told = [
-        answer.number() as u32,
-        answer.value(),
-        counts.read,
-        counts.rfo,
-        counts.write,
-        counts.t_read,
-        counts.t_rfo,
-        counts.busy,
-    ];
 }

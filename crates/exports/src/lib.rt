@@ -3,16 +3,16 @@
 
 mod array;
 mod copying;
+mod one;
 mod places;
 
 use crate::array::held_ok;
 use crate::array::machine_of;
 use crate::array::put_machine;
-use crate::copying::put_told;
+use crate::one::run_one;
 use crate::places::State;
 use entry::refusals::ACCEPTED;
 use entry::refusals::NOT_SOUND;
-use entry::step::Step;
 ghost use mathlib.Core.Path.{_≡_};
 ghost use Rattle.entry.specs.Step.{step};
 ghost use Rattle.rules.specs.Making.{dims};
@@ -69,21 +69,13 @@ pub extern "C" fn stirnfeld_step(
         return NOT_SOUND;
     }
     let m = machine_of(state);
-    let asked = Step {
-        op: op,
-        core: core as usize,
-        word: word,
-        value: value,
-    };
-    let stepped = machine::step(m, asked);
-    let answered = stepped.told;
-    let answer = answered.answer;
-    let refusal = answer.refusal();
-    if refusal != ACCEPTED {
-        return refusal;
+    let mut answer = [0u32; 8];
+    let one = run_one(m, op, core, word, value, &mut answer);
+    if one.refusal != ACCEPTED {
+        return one.refusal;
     }
-    put_machine(state, stepped.machine);
-    put_told(told, answer, answered.counts);
+    put_machine(state, one.machine);
+    *told = answer;
     ACCEPTED
 }
 

@@ -34,6 +34,10 @@ answerLine n a =
     (bytes "," ++
     (bytes (answerName (a .answer)) ++ (bytes "," ++ (decimal (printed (a .answer)) ++ (bytes "," ++ (decimal (cyclesOf (a .counts)) ++ crlf))))))
 
+-- the part of it that is written at once: the answer's name, the commas before and after it
+abbrev pub nameField : Answer → List ℕ
+nameField a = bytes "," ++ (bytes (answerName a) ++ bytes ",")
+
 -- "END gives successful commits and all cycles."
 unfoldable pub endLine : ℕ → ℕ → List ℕ
 endLine commits cycles = bytes "END,COMMITTED," ++ (decimal commits ++ (bytes "," ++ (decimal cycles ++ crlf)))

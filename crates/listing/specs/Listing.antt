@@ -56,11 +56,11 @@ abbrev pub wroteLine : Did → ℕ → List ℕ → Filling Going
 wroteLine r used o = filling (going (r .place) (r .after)) (used + length (r .line)) (sets o used (r .line))
 
 -- what a function leaves that is lent a buffer: where the replay stands, with the caches, and the buffer
-abbrev pub leftBy : Filled → Numbers → Caches → Filling Going
-leftBy r out c = filling (going (r .place) c) (r .used) (after out)
+abbrev pub fillsBy : Filled → Numbers → Caches → Filling Going
+fillsBy r out c = filling (going (r .place) c) (r .used) (after out)
 
-abbrev pub left : Filled → (out m l e f : Numbers) → Filling Going
-left r out m l e f = leftBy r out (returned m l e f)
+abbrev pub fills : Filled → (out m l e f : Numbers) → Filling Going
+fills r out m l e f = fillsBy r out (returned m l e f)
 
 abbrev pub wroteIn : Did → ℕ → Numbers → Filling Going
 wroteIn r used out = wroteLine r used (before out)

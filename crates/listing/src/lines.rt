@@ -7,27 +7,26 @@ use text::writing::put_number;
 ghost use mathlib.Core.Path.{_≡_};
 ghost use Prim.Native.Nat.{_+_, _≤_};
 ghost use lib.ListN.{length};
-ghost use Rattle.entry.specs.Answer.{answerName};
-ghost use Rattle.text.specs.Quoted.{bytes};
 ghost use Rattle.text.specs.Writing.{filled, putOf};
-ghost use Rattle.listing.specs.Lines.{mostLine, printed, answerLine, endLine, headerLine};
+ghost use Rattle.listing.specs.Lines.{mostLine, nameField, printed, answerLine, endLine, headerLine};
 ghost use Rattle.rules.specs.Lent.{before, after};
 
 // No line is longer.
 pub(crate) const LINE_MOST: usize = 72;
 
-// The answers' names in the order of their numbers. Name k is what stands from the k-th start up to the next.
-const NAMES: [u8; 46] = *b"VALUEDONESUCCESSFAILURETRUEFALSEABORTEDREFUSED";
+// The answers' names, each with its two commas, in the order of their numbers. Name k is what stands from the k-th start up to the next.
+const NAMES: [u8; 62] = *b",VALUE,,DONE,,SUCCESS,,FAILURE,,TRUE,,FALSE,,ABORTED,,REFUSED,";
 
-const STARTS: [u8; 9] = [0, 5, 9, 16, 23, 27, 32, 39, 46];
+const STARTS: [u8; 9] = [0, 7, 13, 22, 31, 37, 44, 53, 62];
 
 fn put_name(out: &mut [u8], at: usize, answer: Answer) -> usize
-    ensures { λ r. ⌜ filled r (after out) ≡ putOf (bytes (answerName answer)) (filled at (before out)) ⌝ }
+    ensures { λ r. ⌜ filled r (after out) ≡ putOf (nameField answer) (filled at (before out)) ⌝ }
 {
     let names = NAMES;
+    let starts = STARTS;
     let k = answer.number() as usize;
-    let a = STARTS[k] as usize;
-    let e = STARTS[k + 1] as usize;
+    let a = starts[k] as usize;
+    let e = starts[k + 1] as usize;
     put_bytes(out, at, &names[a..e])
 }
 
@@ -54,13 +53,11 @@ pub(crate) fn write_answer(out: &mut [u8], at: usize, number: u64, told: Answere
     let answer = told.answer;
     let counts = told.counts;
     let a = put_number(out, at, number);
-    let b = put_bytes(out, a, b",");
-    let c = put_name(out, b, answer);
+    let b = put_name(out, a, answer);
+    let c = put_number(out, b, printed(answer));
     let d = put_bytes(out, c, b",");
-    let e = put_number(out, d, printed(answer));
-    let f = put_bytes(out, e, b",");
-    let g = put_number(out, f, counts.cycles());
-    put_bytes(out, g, b"\r\n")
+    let e = put_number(out, d, counts.cycles());
+    put_bytes(out, e, b"\r\n")
 }
 
 pub(crate) fn write_end(out: &mut [u8], at: usize, commits: u64, cycles: u64) -> usize

@@ -27,7 +27,7 @@ ghost use lib.Dec.{leb};
 ghost use lib.ListN.{length};
 ghost use Rattle.rules.specs.State.{Caches};
 ghost use Rattle.listing.specs.Lines.{mostLine};
-ghost use Rattle.listing.specs.Listing.{going, leftBy, left, wroteIn, doRecord, doOther, doLine, fillOf};
+ghost use Rattle.listing.specs.Listing.{going, fillsBy, fills, wroteIn, doRecord, doOther, doLine, fillOf};
 ghost use Rattle.rules.specs.Lent.{before, lent};
 
 // Where the replay stands, and how much of the buffer is written.
@@ -48,7 +48,7 @@ fn do_record(
     x: Place,
 ) -> Filled
     requires { ⌜ used + mostLine ≤ length (now out) ⌝ }
-    ensures { λ r. ⌜ left r out memory lines entries flags ≡ wroteIn (doRecord (before s) d x (lent memory lines entries flags)) used out ⌝ }
+    ensures { λ r. ⌜ fills r out memory lines entries flags ≡ wroteIn (doRecord (before s) d x (lent memory lines entries flags)) used out ⌝ }
 {
     let l = look_at(s, x);
     let told = answer_of(memory, lines, entries, flags, d, l);
@@ -64,7 +64,7 @@ fn do_record(
 // The header, a refusal before any record, or the end.
 fn do_other(s: &[u8], out: &mut [u8], used: usize, x: Place) -> Filled
     requires { ⌜ used + mostLine ≤ length (now out) ⌝ }
-    ensures { λ r. ⌜ ((c : Caches) → leftBy r out c ≡ wroteIn (doOther (before s) x c) used out) ⌝ }
+    ensures { λ r. ⌜ ((c : Caches) → fillsBy r out c ≡ wroteIn (doOther (before s) x c) used out) ⌝ }
 {
     if x.phase == HEADER {
         let k = write_header(out, used);
@@ -104,7 +104,7 @@ fn do_line(
     x: Place,
 ) -> Filled
     requires { ⌜ used + mostLine ≤ length (now out) ⌝ }
-    ensures { λ r. ⌜ left r out memory lines entries flags ≡ wroteIn (doLine (before s) d x (lent memory lines entries flags)) used out ⌝ }
+    ensures { λ r. ⌜ fills r out memory lines entries flags ≡ wroteIn (doLine (before s) d x (lent memory lines entries flags)) used out ⌝ }
 {
     if x.phase == RECORD {
         return do_record(s, out, used, memory, lines, entries, flags, d, x);
@@ -133,7 +133,7 @@ pub(crate) fn fill(
 ) -> Filled
     ensures { λ r.
         let from = going first (lent memory lines entries flags) in
-        ⌜ left r out memory lines entries flags ≡ fillOf (before s) d from (before out) ⌝ }
+        ⌜ fills r out memory lines entries flags ≡ fillOf (before s) d from (before out) ⌝ }
 {
     let room = out.len();
     let mut x = first;

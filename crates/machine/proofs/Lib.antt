@@ -1,3 +1,4 @@
+pub mod Answering
 pub mod Padding
 pub mod Fits
 pub mod Unique

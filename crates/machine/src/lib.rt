@@ -113,7 +113,13 @@ pub fn step(m: Machine, step: Step) -> Stepped
     let mut lines = m.lines;
     let mut entries = m.entries;
     let mut flags = m.flags;
-    let answered = steps::take_step(&mut memory, &mut lines, &mut entries, &mut flags, d, step);
+    let told = steps::take_step(&mut memory, &mut lines, &mut entries, &mut flags, d, step);
+    let answer = told.answer;
+    let counts = told.counts;
+    let answered = Answered {
+        answer: answer,
+        counts: counts,
+    };
     let stepped = Machine {
         dims: d,
         memory: memory,

@@ -4,6 +4,6 @@ pub mod Edges
 pub mod Worked
 pub mod Readings
 pub mod Slots
-pub mod Answers
+pub mod Refusing
 pub mod Taken
 pub mod Unique

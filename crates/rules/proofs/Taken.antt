@@ -13,7 +13,7 @@ use Rattle.entry.specs.Step.{usesWord}
 use Rattle.rules.specs.declared.Dims.{Dims}
 use Rattle.rules.specs.State.{Caches, Outcome}
 use Rattle.rules.specs.Step.{operandsRefusal, allowed, refused, narrowed, takeStep}
-use Rattle.rules.proofs.Answers.{refusalOf}
+use Rattle.rules.proofs.Refusing.{refusalOf}
 
 pub record Taken (d : Dims) (x : Step) : Type 0 where
   pub number : x .op ≤ INTERRUPT

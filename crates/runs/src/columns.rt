@@ -1,44 +1,32 @@
-// Places of lent columns. Past a column's end a place reads 0, and nothing is written.
+// A place of the lent columns, which is in each of them.
 
-use entry::answer::Answered;
+use entry::answer::Answer;
+use entry::answer::Counts;
+use entry::step::Step;
 ghost use mathlib.Core.Path.{_≡_};
 ghost use lib.Dec.{eqb};
-ghost use lib.ListN.{getD, set};
 ghost use Rattle.laws.specs.Choice.{both};
-ghost use Rattle.rules.specs.Run.{written};
-ghost use Rattle.rules.specs.Lent.{before, after, columnsOf};
+ghost use Rattle.entry.specs.Answer.{answered};
+ghost use Rattle.rules.specs.Run.{steps, columns, stepAt, written};
+ghost use Rattle.rules.specs.Lent.{lentSteps, columnsOf};
+ghost use Rattle.runs.specs.Within.{InSteps, InColumns};
 
-pub(crate) fn byte_at(column: &[u8], i: usize) -> u8
-    ensures { λ r. ⌜ r ≡ getD (before column) i 0 ⌝ }
+fn wide(core: u8) -> usize
+    ensures { λ r. ⌜ r ≡ core ⌝ }
 {
-    if i < column.len() {
-        return column[i];
-    }
-    0
+    core as usize
 }
 
-pub(crate) fn number_at(column: &[u32], i: usize) -> u32
-    ensures { λ r. ⌜ r ≡ getD (before column) i 0 ⌝ }
+// The step there.
+pub(crate) fn step_at(ops: &[u8], cores: &[u8], words: &[u32], values: &[u32], i: usize) -> Step
+    requires { ⌜ InSteps (steps (now ops) (now cores) (now words) (now values)) i ⌝ }
+    ensures { λ r. ⌜ r ≡ stepAt (lentSteps ops cores words values) i ⌝ }
 {
-    if i < column.len() {
-        return column[i];
-    }
-    0
-}
-
-fn put_byte(column: &mut [u8], i: usize, x: u8)
-    ensures { λ r. ⌜ after column ≡ set (before column) i x ⌝ }
-{
-    if i < column.len() {
-        column[i] = x;
-    }
-}
-
-fn put_number(column: &mut [u32], i: usize, x: u32)
-    ensures { λ r. ⌜ after column ≡ set (before column) i x ⌝ }
-{
-    if i < column.len() {
-        column[i] = x;
+    Step {
+        op: ops[i],
+        core: wide(cores[i]),
+        word: words[i],
+        value: values[i],
     }
 }
 
@@ -52,22 +40,22 @@ pub(crate) fn write_answer(
     t_rfo: &mut [u32],
     busy: &mut [u32],
     i: usize,
-    told: Answered,
+    answer: Answer,
+    counts: Counts,
 )
+    requires { ⌜ InColumns (columns (now answers) (now results) (now read) (now rfo) (now write) (now «t_read») (now «t_rfo») (now busy)) i ⌝ }
     ensures { λ r.
         let c = columnsOf answers results read rfo write «t_read» «t_rfo» busy in
-        ⌜ c .exit ≡ written (c .entry) i told ⌝ }
+        ⌜ c .exit ≡ written (c .entry) i (answered answer counts) ⌝ }
 {
-    let answer = told.answer;
-    let c = told.counts;
-    put_byte(answers, i, answer.number());
-    put_number(results, i, answer.value());
-    put_number(read, i, c.read);
-    put_number(rfo, i, c.rfo);
-    put_number(write, i, c.write);
-    put_number(t_read, i, c.t_read);
-    put_number(t_rfo, i, c.t_rfo);
-    put_number(busy, i, c.busy);
+    answers[i] = answer.number();
+    results[i] = answer.value();
+    read[i] = counts.read;
+    rfo[i] = counts.rfo;
+    write[i] = counts.write;
+    t_read[i] = counts.t_read;
+    t_rfo[i] = counts.t_rfo;
+    busy[i] = counts.busy;
 }
 
 // One test more of the columns' lengths.

@@ -1,16 +1,15 @@
 // A run's loop on the lent arrays, from a sound state.
 
-use crate::columns::byte_at;
-use crate::columns::number_at;
+use crate::columns::step_at;
 use crate::columns::write_answer;
 use entry::refusals::ACCEPTED;
-use entry::step::Step;
 use rules::Copies;
 use rules::Dims;
 use rules::Flags;
 use rules::Memory;
 ghost use mathlib.Core.Path.{_≡_};
-ghost use Rattle.rules.specs.Run.{stepAt, carried, runSound};
+ghost use mathlib.Core.Bool.{true};
+ghost use Rattle.rules.specs.Run.{steps, columns, columnsOk, carried, runSound};
 ghost use Rattle.runs.specs.Halting.{halted};
 ghost use Rattle.rules.specs.Lent.{lent, returned, lentSteps, columnsOf};
 
@@ -20,18 +19,7 @@ pub struct Halt {
     pub refusal: u8,
 }
 
-// The step at a place of the columns.
-fn step_at(ops: &[u8], cores: &[u8], words: &[u32], values: &[u32], i: usize) -> Step
-    ensures { λ r. ⌜ r ≡ stepAt (lentSteps ops cores words values) i ⌝ }
-{
-    Step {
-        op: byte_at(ops, i),
-        core: byte_at(cores, i) as usize,
-        word: number_at(words, i),
-        value: number_at(values, i),
-    }
-}
-
+// The columns have one length.
 pub(crate) fn run_sound(
     memory: &mut Memory,
     lines: &mut Copies,
@@ -51,6 +39,8 @@ pub(crate) fn run_sound(
     t_rfo: &mut [u32],
     busy: &mut [u32],
 ) -> Halt
+    requires { ⌜ columnsOk (steps (now ops) (now cores) (now words) (now values))
+        (columns (now answers) (now results) (now read) (now rfo) (now write) (now «t_read») (now «t_rfo») (now busy)) ≡ true ⌝ }
     ensures { λ r.
         let c = columnsOf answers results read rfo write «t_read» «t_rfo» busy in
         ⌜ halted d r (carried (returned memory lines entries flags) (c .exit)) ≡
@@ -62,11 +52,11 @@ pub(crate) fn run_sound(
         let step = step_at(ops, cores, words, values, i);
         let told = steps::take_step(memory, lines, entries, flags, d, step);
         let answer = told.answer;
-        let k = answer.refusal();
-        if k != ACCEPTED {
+        let counts = told.counts;
+        if answer.is_refusal() {
             return Halt {
                 taken: i,
-                refusal: k,
+                refusal: answer.refusal(),
             };
         }
         write_answer(
@@ -79,7 +69,8 @@ pub(crate) fn run_sound(
             t_rfo,
             busy,
             i,
-            told,
+            answer,
+            counts,
         );
         i += 1;
     }

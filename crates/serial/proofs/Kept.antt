@@ -18,7 +18,7 @@ use Rattle.rules.specs.Sound.{Sound}
 use Rattle.rules.specs.SoundTest.{soundOf}
 use Rattle.rules.specs.Step.{takeStep, stepped, steppedOf, stepOf}
 use Rattle.rules.specs.Run.{Steps, Columns, columnsOk, Carried, carried, left, stepAt, stopsAt, turn, runSound, runOf}
-use Rattle.rules.proofs.Answers.{refusalOf, refused-stays}
+use Rattle.rules.proofs.Refusing.{refusalOf, refused-stays}
 use Rattle.rules.proofs.Taken.{Taken, taken}
 use Rattle.theory.proofs.Coherent.{coherent-step}
 use Rattle.sound.proofs.Exact.{sound-true}

@@ -24,7 +24,8 @@ ghost use Rattle.rules.specs.State.{outcome};
 ghost use Rattle.rules.specs.Step.{takeStep};
 ghost use Rattle.rules.specs.Lent.{lent, returned};
 
-// One arm for each instruction. A refused step leaves the arrays as they were.
+// One arm for each instruction. A refused step leaves the arrays as they were. LT, LTX and ST meet after the match, and nothing else does:
+// then the compiler writes transact out in a run's loop, instead of calling it at three places.
 pub fn take_step(
     memory: &mut Memory,
     lines: &mut Copies,
@@ -36,16 +37,17 @@ pub fn take_step(
     ensures { λ r. ⌜ outcome r (returned memory lines entries flags) ≡ takeStep d step (lent memory lines entries flags) ⌝ }
 {
     let op = step.op;
-    match op {
-        LOAD => allowed::load(memory, lines, entries, flags, d, step),
-        STORE => allowed::store(memory, lines, entries, flags, d, step),
+    let told = match op {
+        LOAD => return allowed::load(memory, lines, entries, flags, d, step),
+        STORE => return allowed::store(memory, lines, entries, flags, d, step),
         LT => allowed::transact(memory, lines, entries, flags, d, LT, step),
         LTX => allowed::transact(memory, lines, entries, flags, d, LTX, step),
         ST => allowed::transact(memory, lines, entries, flags, d, ST, step),
-        COMMIT => allowed::commit(entries, flags, d, step),
-        ABORT => allowed::abort(entries, flags, d, step),
-        VALIDATE => allowed::validate(entries, flags, d, step),
-        INTERRUPT => allowed::interrupt(entries, flags, d, step),
-        9..=255 => Answered::refused(NO_SUCH_STEP),
-    }
+        COMMIT => return allowed::commit(entries, flags, d, step),
+        ABORT => return allowed::abort(entries, flags, d, step),
+        VALIDATE => return allowed::validate(entries, flags, d, step),
+        INTERRUPT => return allowed::interrupt(entries, flags, d, step),
+        9..=255 => return Answered::refused(NO_SUCH_STEP),
+    };
+    told
 }

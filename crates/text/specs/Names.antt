@@ -1,7 +1,7 @@
 -- The steps' names.
 use Prim.Native.Nat.{ℕ, _+_, _-_}
 use mathlib.Core.Bool.{Bool, false, not}
-use mathlib.Core.List.{List, [], _∷_}
+use mathlib.Core.List.{List, [], _∷_, _++_}
 use lib.Dec.{eqb, ltb}
 use lib.ListN.{length, getD}
 use Rattle.laws.specs.Choice.{pick}
@@ -39,6 +39,14 @@ stepNames =
     bytes "VALIDATE" ∷
     bytes "INTERRUPT" ∷
     []
+
+-- all of them, one after the other
+abbrev pub joined : List (List ℕ) → List ℕ
+joined [] = []
+joined (x ∷ l) = x ++ joined l
+
+abbrev pub allNames : List ℕ
+allNames = joined stepNames
 
 -- The text is the name of step k.
 unfoldable pub isName : List ℕ → ℕ → ℕ → ℕ → Bool

@@ -5,7 +5,7 @@ use entry::numbers::INTERRUPT;
 ghost use mathlib.Core.Path.{_≡_};
 ghost use Prim.Native.Nat.{_+_, _<_};
 ghost use lib.ListN.{length};
-ghost use Rattle.text.specs.Names.{sameText, unlikeOf, stepNames, isName, namedStep};
+ghost use Rattle.text.specs.Names.{sameText, unlikeOf, stepNames, allNames, isName, namedStep};
 
 // What a text names: a step by its number, or nothing.
 pub enum Named {
@@ -53,14 +53,14 @@ fn first_unlike(s: &[u8], from: usize, n: usize, name: &[u8]) -> usize
     at
 }
 
-// The text is the name of step k.
-fn is_name(s: &[u8], from: usize, end: usize, k: usize) -> bool
-    requires { ⌜ k < length stepNames ⌝ }
+// The text is the name of step k. The table is lent: a copy of it for every name would cost more than the search.
+fn is_name(names: &[u8], s: &[u8], from: usize, end: usize, k: usize) -> bool
+    requires { ⌜ (now names ≡ allNames) × (k < length stepNames) ⌝ }
     ensures { λ r. ⌜ r ≡ isName (now (s .entry)) from end k ⌝ }
 {
-    let names = NAMES;
-    let a = STARTS[k] as usize;
-    let e = STARTS[k + 1] as usize;
+    let starts = STARTS;
+    let a = starts[k] as usize;
+    let e = starts[k + 1] as usize;
     text_is(s, from, end, &names[a..e])
 }
 
@@ -68,12 +68,13 @@ fn is_name(s: &[u8], from: usize, end: usize, k: usize) -> bool
 pub(crate) fn step_of(s: &[u8], from: usize, end: usize) -> Named
     ensures { λ r. ⌜ r ≡ namedStep (now (s .entry)) from end ⌝ }
 {
+    let names = NAMES;
     let mut k: u8 = 0;
     loop {
         if k > INTERRUPT {
             return Named::Nothing;
         }
-        if is_name(s, from, end, k as usize) {
+        if is_name(&names, s, from, end, k as usize) {
             return Named::Step(k);
         }
         k += 1;

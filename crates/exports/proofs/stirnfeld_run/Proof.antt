@@ -1,5 +1,6 @@
+use Rattle.exports.proofs.Leaving.{ran-some, ran-none}
 use mathlib.Core.Path.{sym, _∙_}
-use borrow.Author.Tests.{ne-eqb, not-true, not-false}
+use borrow.Author.Tests.{not-true, not-false}
 use borrow.Author.Needs.{needs}
 use Rattle.exports.specs.Handed.{runIn}
 use Rattle.exports.proofs.stirnfeld_run.Statement.{statement}
@@ -48,20 +49,8 @@ same-length-8 : tie.Need-same-length-8
 same-length-8 c = search needs
 
 returns-2 : tie.Need-returns-2
-unfolding runIn
-returns-2 c =
-    let c1 = c .before .before in
-    let c2 = c1 .before .before .before .before .before .before .before .before .before in
-    let c3 = c2 .before .before .before .before .before .before .before .before .before in
-    let c4 = c3 .before .before .before .before .before .before .before .before .before in
-    let c5 = c4 .before .before in
-    let c6 = c5 .before in
-    rw (
-      ← c6 .held-ok .ensures,
-      not-false (c6 .held-ok .result) (c5 .if1 .left),
-      ← c4 .machine-of .ensures,
-    )
-    (rw (← c3 .run .ensures) (rw (ne-eqb _ _ (c1 .if2 .taken), c .put-machine .ensures)))
+returns-2 c = let held = sym (c .before .before .before .before .before .before .before .before .before .before .before .before .before .before .before .before .before .before .before .before .before .before .before .before .before .before .before .before .before .before .before .before .held-ok .ensures) ∙ not-false (c .before .before .before .before .before .before .before .before .before .before .before .before .before .before .before .before .before .before .before .before .before .before .before .before .before .before .before .before .before .before .before .before .held-ok .result) (c .before .before .before .before .before .before .before .before .before .before .before .before .before .before .before .before .before .before .before .before .before .before .before .before .before .before .before .before .before .before .before .if1 .left) in
+    ran-some _ _ _ _ held _ (c .before .before .before .before .before .before .before .before .before .before .before .before .before .before .before .before .before .before .before .before .before .before .before .before .before .before .before .before .before .machine-of .ensures) _ (c .before .before .before .before .before .before .before .before .before .before .before .before .before .before .before .before .before .before .before .before .run .ensures) (c .before .before .if2 .taken) _ (c .put-machine .ensures)
 
 same-length-9 : tie.Need-same-length-9
 same-length-9 c = search needs
@@ -88,20 +77,8 @@ same-length-16 : tie.Need-same-length-16
 same-length-16 c = search needs
 
 returns-3 : tie.Need-returns-3
-unfolding runIn
-returns-3 c =
-    let c1 = c .before .before .before .before .before .before .before .before .before in
-    let c2 = c1 .before .before .before .before .before .before .before .before .before in
-    let c3 = c2 .before .before .before .before .before .before .before .before .before in
-    let c4 = c3 .before .before in
-    let c5 = c4 .before in
-    rw (
-      ← c5 .held-ok .ensures,
-      not-false (c5 .held-ok .result) (c4 .if1 .left),
-      ← c3 .machine-of .ensures,
-      ← c2 .run .ensures,
-      c .if2 .left,
-    )
+returns-3 c = let held = sym (c .before .before .before .before .before .before .before .before .before .before .before .before .before .before .before .before .before .before .before .before .before .before .before .before .before .before .before .before .before .before .held-ok .ensures) ∙ not-false (c .before .before .before .before .before .before .before .before .before .before .before .before .before .before .before .before .before .before .before .before .before .before .before .before .before .before .before .before .before .before .held-ok .result) (c .before .before .before .before .before .before .before .before .before .before .before .before .before .before .before .before .before .before .before .before .before .before .before .before .before .before .before .before .before .if1 .left) in
+    ran-none _ _ _ _ held _ (c .before .before .before .before .before .before .before .before .before .before .before .before .before .before .before .before .before .before .before .before .before .before .before .before .before .before .before .machine-of .ensures) _ (c .before .before .before .before .before .before .before .before .before .before .before .before .before .before .before .before .before .before .run .ensures) (c .if2 .left)
 
 pub stirnfeld-run-spec : {M : Type 1} → statement M
 stirnfeld-run-spec =

@@ -1,7 +1,6 @@
 use mathlib.Core.Path.{_∙_, sym}
 use Rattle.rules.specs.Making.{dims}
-use borrow.Author.Tests.{eq-eqb, ne-eqb}
-use Rattle.rules.specs.Making.{makeOf}
+use Rattle.machine.proofs.Answering.{refuses-making, makes}
 use Rattle.machine.proofs.Fits.{make-fit}
 use borrow.Author.Needs.{needs}
 use Rattle.machine.proofs.make.Statement.{statement}
@@ -14,8 +13,7 @@ smallest-machine-requires : tie.Need-smallest-machine-requires
 smallest-machine-requires c κs = search needs
 
 returns : tie.Need-returns
-unfolding makeOf
-returns c = rw (← c .before .before .make-refusal .ensures, ne-eqb _ _ (c .before .if1 .taken), c .smallest-machine .ensures)
+returns c = refuses-making _ _ _ (c .before .before .make-refusal .ensures) _ (c .before .if1 .taken) (c .smallest-machine .ensures)
 
 fresh-machine-requires : tie.Need-fresh-machine-requires
 fresh-machine-requires c κs =
@@ -24,8 +22,7 @@ fresh-machine-requires c κs =
     (sym (c .before .make-refusal .ensures) ∙ c .if1 .left)
 
 returns-2 : tie.Need-returns-2
-unfolding makeOf
-returns-2 c = rw (← c .before .before .make-refusal .ensures, eq-eqb _ _ (c .before .if1 .left), c .fresh-machine .ensures)
+returns-2 c = makes _ _ _ (c .before .before .make-refusal .ensures) _ (c .before .if1 .left) (c .fresh-machine .ensures)
 
 pub make-spec : {M : Type 1} → statement M
 make-spec =

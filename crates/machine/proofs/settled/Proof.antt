@@ -1,10 +1,10 @@
-use borrow.Author.Tests.{lt-ltb, le-ltb}
-use Prim.Native.Nat.{_%_}
-use mathlib.Core.Path.{_≡_, _∙_, sym}
+use borrow.Author.Tests.{le-ltb}
+use mathlib.Core.Path.{_∙_, sym}
 use native.Mathlib.Omega.{arith}
 use borrow.Author.Tests.{not-true, not-false}
 use Rattle.rules.specs.Step.{settledOf}
 use Rattle.machine.proofs.Fits.{sound-fit}
+use Rattle.machine.proofs.Answering.{settles-word}
 use borrow.Author.Needs.{needs}
 use Rattle.machine.proofs.settled.Statement.{statement}
 use Rattle.machine.proofs.settled.Tie as tie
@@ -34,15 +34,13 @@ settled-in-requires : tie.Need-settled-in-requires
 settled-in-requires c κs = search needs
 
 returns-3 : tie.Need-returns-3
-unfolding settledOf
 returns-3 c =
     let c1 = c .before .before .before .before .before .before .before .before .before in
     let c2 = c1 .before .before .before in
     let c3 = c2 .before in
-    let c4 = c3 .before in
-    let f = sound-fit _ _ (sym (c3 .sound .ensures) ∙ not-false (c3 .sound .result) (c2 .if1 .left)) in let e : c4 .args .word % 256 ≡
-    c4 .args .word = omega (arith, f .words, c1 .if2 .left) in rw
-    (← c3 .sound .ensures, not-false (c3 .sound .result) (c2 .if1 .left), lt-ltb _ _ (c1 .if2 .left), c .settled-in .ensures, e)
+    let sound = sym (c3 .sound .ensures) ∙ not-false (c3 .sound .result) (c2 .if1 .left) in
+    settles-word _ sound (c3 .before .args .word) _ _ (c1 .if2 .left) (omega (arith, sound-fit _ _ sound .words, c1 .if2 .left))
+    (c .settled-in .ensures)
 
 pub settled-spec : {M : Type 1} → statement M
 settled-spec =

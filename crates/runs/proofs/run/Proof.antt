@@ -1,3 +1,4 @@
+use mathlib.Core.Path.{_∙_, sym}
 use borrow.Author.Tests.{not-true, not-false}
 use Rattle.rules.specs.Run.{runOf}
 use borrow.Author.Needs.{needs}
@@ -51,7 +52,7 @@ returns-2 c =
     )
 
 run-sound-requires : tie.Need-run-sound-requires
-run-sound-requires c κs = search needs
+run-sound-requires c κs = sym (c .before .before .before .before .before .before .before .before .before .before .before .before .before .before .before .before .before .before .columns-ok .ensures) ∙ not-false (c .before .before .before .before .before .before .before .before .before .before .before .before .before .before .before .before .before .before .columns-ok .result) (c .before .before .before .before .before .before .before .before .before .before .before .before .before .before .before .before .before .if2 .left)
 
 same-length-9 : tie.Need-same-length-9
 same-length-9 c = search needs

@@ -1,4 +1,3 @@
-use native.Mathlib.Omega.{arith}
 use borrow.Author.Needs.{needs}
 use Rattle.entry.proofs.answer.more_if.Statement.{statement}
 use Rattle.entry.proofs.answer.more_if.Tie as tie

@@ -7,20 +7,8 @@ use Rattle.listing.proofs.lines.write_answer.Tie as tie
 put-number-requires : tie.Need-put-number-requires
 put-number-requires c κs = search needs
 
-slice-aggregate-put-bytes : tie.Need-slice-aggregate-put-bytes
-slice-aggregate-put-bytes c = search needs
-
-put-bytes-requires : tie.Need-put-bytes-requires
-put-bytes-requires c κs = search needs
-
 put-name-requires : tie.Need-put-name-requires
 put-name-requires c κs = search needs
-
-slice-aggregate-put-bytes-2 : tie.Need-slice-aggregate-put-bytes-2
-slice-aggregate-put-bytes-2 c = search needs
-
-put-bytes-requires-2 : tie.Need-put-bytes-requires-2
-put-bytes-requires-2 c κs = search needs
 
 printed-requires : tie.Need-printed-requires
 printed-requires c κs = search needs
@@ -28,11 +16,11 @@ printed-requires c κs = search needs
 put-number-requires-2 : tie.Need-put-number-requires-2
 put-number-requires-2 c κs = search needs
 
-slice-aggregate-put-bytes-3 : tie.Need-slice-aggregate-put-bytes-3
-slice-aggregate-put-bytes-3 c = search needs
+slice-aggregate-put-bytes : tie.Need-slice-aggregate-put-bytes
+slice-aggregate-put-bytes c = search needs
 
-put-bytes-requires-3 : tie.Need-put-bytes-requires-3
-put-bytes-requires-3 c κs = search needs
+put-bytes-requires : tie.Need-put-bytes-requires
+put-bytes-requires c κs = search needs
 
 cycles-requires : tie.Need-cycles-requires
 cycles-requires c κs = search needs
@@ -40,57 +28,32 @@ cycles-requires c κs = search needs
 put-number-requires-3 : tie.Need-put-number-requires-3
 put-number-requires-3 c κs = search needs
 
-slice-aggregate-put-bytes-4 : tie.Need-slice-aggregate-put-bytes-4
-slice-aggregate-put-bytes-4 c = search needs
+slice-aggregate-put-bytes-2 : tie.Need-slice-aggregate-put-bytes-2
+slice-aggregate-put-bytes-2 c = search needs
 
-put-bytes-requires-4 : tie.Need-put-bytes-requires-4
-put-bytes-requires-4 c κs = search needs
+put-bytes-requires-2 : tie.Need-put-bytes-requires-2
+put-bytes-requires-2 c κs = search needs
 
 same-length : tie.Need-same-length
-same-length c =
-    let c1 = c .before .before .before .before .before .before .before in
-    let c2 = c1 .before .before .before .before .before in
-    let c3 = c2 .before .before .before .before .before in
-    let c4 = c3 .before .before .before .before .before in
-    let c5 = c4 .before .before .before .before .before in
-    let c6 = c5 .before .before .before .before in
-    let c7 = c6 .before .before .before .before .before in
-    c .before .before .put-bytes4 .kept .0 ∙ c1 .put-number3 .kept .0 ∙ c2 .put-bytes3 .kept .0 ∙ c3 .put-number2 .kept .0 ∙
-    c4 .put-bytes2 .kept .0 ∙ c5 .put-name .kept .0 ∙ c6 .put-bytes .kept .0 ∙ c7 .put-number .kept .0
+same-length c = c .before .before .put-bytes2 .kept .0 ∙ c .before .before .before .before .before .before .before .put-number3 .kept .0 ∙ c .before .before .before .before .before .before .before .before .before .before .before .before .put-bytes .kept .0 ∙ c .before .before .before .before .before .before .before .before .before .before .before .before .before .before .before .before .before .put-number2 .kept .0 ∙ c .before .before .before .before .before .before .before .before .before .before .before .before .before .before .before .before .before .before .before .before .before .before .put-name .kept .0 ∙ c .before .before .before .before .before .before .before .before .before .before .before .before .before .before .before .before .before .before .before .before .before .before .before .before .before .before .put-number .kept .0
 
 returns : tie.Need-returns
-returns c =
-    let c1 = c .before .before .before .before .before .before .before in
-    let c2 = c1 .before in
-    let c3 = c2 .before .before .before .before in
-    let c4 = c3 .before .before .before .before .before in
-    let c5 = c4 .before in
-    let c6 = c5 .before .before .before .before in
-    let c7 = c6 .before .before .before .before .before in
-    let c8 = c7 .before .before .before .before in
-    let c9 = c8 .before .before .before .before .before in
-    let c10 = c9 .before .before .before .before in
-    answer-written _ _ _ _ _ _ _ _ _ _ _ _ _ (c10 .pre) (c9 .put-number .ensures) (c8 .put-bytes .ensures) (c7 .put-name .ensures)
-    (c6 .put-bytes2 .ensures) (c5 .printed .ensures) (c4 .put-number2 .ensures) (c3 .put-bytes3 .ensures) (c2 .cycles .ensures)
-    (c1 .put-number3 .ensures) (c .before .before .put-bytes4 .ensures)
+returns c = answer-written _ _ _ _ _ _ _ _ _ _ _ (c .before .before .before .before .before .before .before .before .before .before .before .before .before .before .before .before .before .before .before .before .before .before .before .before .before .before .before .before .before .before .pre) (c .before .before .before .before .before .before .before .before .before .before .before .before .before .before .before .before .before .before .before .before .before .before .before .before .before .before .put-number .ensures) (c .before .before .before .before .before .before .before .before .before .before .before .before .before .before .before .before .before .before .before .before .before .before .put-name .ensures) (c .before .before .before .before .before .before .before .before .before .before .before .before .before .before .before .before .before .before .printed .ensures) (c .before .before .before .before .before .before .before .before .before .before .before .before .before .before .before .before .before .put-number2 .ensures)
+    (c .before .before .before .before .before .before .before .before .before .before .before .before .put-bytes .ensures) (c .before .before .before .before .before .before .before .before .cycles .ensures) (c .before .before .before .before .before .before .before .put-number3 .ensures) (c .before .before .put-bytes2 .ensures)
 
 pub write-answer-spec : {M : Type 1} → statement M
 write-answer-spec =
     tie.close
     (tie.spec
     put-number-requires
-    slice-aggregate-put-bytes
-    put-bytes-requires
     put-name-requires
-    slice-aggregate-put-bytes-2
-    put-bytes-requires-2
     printed-requires
     put-number-requires-2
-    slice-aggregate-put-bytes-3
-    put-bytes-requires-3
+    slice-aggregate-put-bytes
+    put-bytes-requires
     cycles-requires
     put-number-requires-3
-    slice-aggregate-put-bytes-4
-    put-bytes-requires-4
+    slice-aggregate-put-bytes-2
+    put-bytes-requires-2
     same-length
     returns)

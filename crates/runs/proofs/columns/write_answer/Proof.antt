@@ -5,32 +5,53 @@ use Rattle.runs.proofs.columns.write_answer.Tie as tie
 number-requires : tie.Need-number-requires
 number-requires c κs = search needs
 
-put-byte-requires : tie.Need-put-byte-requires
-put-byte-requires c κs = search needs
+slice-write-answers : tie.Need-slice-write-answers
+slice-write-answers c = search needs
 
 value-requires : tie.Need-value-requires
 value-requires c κs = search needs
 
-put-number-requires : tie.Need-put-number-requires
-put-number-requires c κs = search needs
+mul-results : tie.Need-mul-results
+mul-results c = search needs
 
-put-number-requires-2 : tie.Need-put-number-requires-2
-put-number-requires-2 c κs = search needs
+slice-write-results : tie.Need-slice-write-results
+slice-write-results c = search needs
 
-put-number-requires-3 : tie.Need-put-number-requires-3
-put-number-requires-3 c κs = search needs
+mul-read : tie.Need-mul-read
+mul-read c = search needs
 
-put-number-requires-4 : tie.Need-put-number-requires-4
-put-number-requires-4 c κs = search needs
+slice-write-read : tie.Need-slice-write-read
+slice-write-read c = search needs
 
-put-number-requires-5 : tie.Need-put-number-requires-5
-put-number-requires-5 c κs = search needs
+mul-rfo : tie.Need-mul-rfo
+mul-rfo c = search needs
 
-put-number-requires-6 : tie.Need-put-number-requires-6
-put-number-requires-6 c κs = search needs
+slice-write-rfo : tie.Need-slice-write-rfo
+slice-write-rfo c = search needs
 
-put-number-requires-7 : tie.Need-put-number-requires-7
-put-number-requires-7 c κs = search needs
+mul-write : tie.Need-mul-write
+mul-write c = search needs
+
+slice-write-write : tie.Need-slice-write-write
+slice-write-write c = search needs
+
+mul-t-read : tie.Need-mul-t-read
+mul-t-read c = search needs
+
+slice-write-t-read : tie.Need-slice-write-t-read
+slice-write-t-read c = search needs
+
+mul-t-rfo : tie.Need-mul-t-rfo
+mul-t-rfo c = search needs
+
+slice-write-t-rfo : tie.Need-slice-write-t-rfo
+slice-write-t-rfo c = search needs
+
+mul-busy : tie.Need-mul-busy
+mul-busy c = search needs
+
+slice-write-busy : tie.Need-slice-write-busy
+slice-write-busy c = search needs
 
 same-length : tie.Need-same-length
 same-length c = search needs
@@ -57,43 +78,29 @@ same-length-8 : tie.Need-same-length-8
 same-length-8 c = search needs
 
 returns : tie.Need-returns
-returns c =
-    let c1 = c .before .before .before .before .before .before in
-    let c2 = c1 .before .before .before .before in
-    let c3 = c2 .before .before .before .before in
-    let c4 = c3 .before .before .before .before in
-    let c5 = c4 .before .before .before .before in
-    let c6 = c5 .before .before .before .before in
-    let c7 = c6 .before in
-    let c8 = c7 .before .before .before .before in
-    let c9 = c8 .before in
-    rw (
-      c8 .put-byte .ensures,
-      c6 .put-number .ensures,
-      c5 .put-number2 .ensures,
-      c4 .put-number3 .ensures,
-      c3 .put-number4 .ensures,
-      c2 .put-number5 .ensures,
-      c1 .put-number6 .ensures,
-      c .before .before .put-number7 .ensures,
-      c9 .number .ensures,
-      c7 .value .ensures,
-    )
+returns c = rw (c .before .number .ensures, c .value .ensures)
 
 pub write-answer-spec : {M : Type 1} → statement M
 write-answer-spec =
     tie.close
     (tie.spec
     number-requires
-    put-byte-requires
+    slice-write-answers
     value-requires
-    put-number-requires
-    put-number-requires-2
-    put-number-requires-3
-    put-number-requires-4
-    put-number-requires-5
-    put-number-requires-6
-    put-number-requires-7
+    mul-results
+    slice-write-results
+    mul-read
+    slice-write-read
+    mul-rfo
+    slice-write-rfo
+    mul-write
+    slice-write-write
+    mul-t-read
+    slice-write-t-read
+    mul-t-rfo
+    slice-write-t-rfo
+    mul-busy
+    slice-write-busy
     same-length
     same-length-2
     same-length-3

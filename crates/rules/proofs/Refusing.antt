@@ -1,15 +1,18 @@
--- No instruction refuses: only the number of a step and its operands do. So a step that is refused leaves the state as it was.
+-- No instruction refuses: only the number of a step and its operands do. So a step that is refused leaves the state as it was, and its
+-- number is not `accepted`.
 use mathlib.Core.Path.{_≡_, refl}
 use mathlib.Core.Logic.{_≢_}
-use mathlib.Core.Bool.{Bool, true, false}
+use mathlib.Core.Bool.{Bool, true, false, not, true≢false}
 use Prim.Native.Nat.{ℕ, _+_}
 use lib.Dec.{eqb, ltb}
 use Rattle.laws.specs.Choice.{pick}
+use Rattle.entry.specs.declared.answer.Answer.{Answer}
+use Rattle.entry.specs.declared.answer.Answer.the-variants.{Value, Done, Success, Failure, True, False, Aborted, Refused}
 use Rattle.entry.specs.declared.answer.Counts.{Counts}
 use Rattle.entry.specs.declared.step.Step.{Step}
 use Rattle.entry.specs.Numbers.{VALID, NORMAL, TENTATIVE, T-RFO, LOAD, STORE, LT, LTX, ST, COMMIT, ABORT, VALIDATE, INTERRUPT}
 use Rattle.entry.specs.Refusals.{accepted}
-use Rattle.entry.specs.Answer.{quiet, asked, refusalNumber}
+use Rattle.entry.specs.Answer.{quiet, asked, refusalNumber, isRefusal}
 use Rattle.rules.specs.declared.Dims.{Dims}
 use Rattle.rules.specs.State.{Caches, Outcome, Counted, lineAt, entryAt, TSTATUS}
 use Rattle.rules.specs.Own.{home, holds, findEntry, freeSlot}
@@ -24,8 +27,21 @@ use Rattle.rules.specs.Step.{operandsRefusal, allowed, refused, narrowed
 abbrev pub refusalOf : Outcome → ℕ
 refusalOf r = refusalNumber (r .told .answer)
 
-abbrev pub Accepts : Outcome → Type 0
-Accepts r = refusalOf r ≡ accepted
+abbrev isRefused : Outcome → Bool
+isRefused r = isRefusal (r .told .answer)
+
+abbrev Accepts : Outcome → Type 0
+Accepts r = isRefused r ≡ false
+
+unrefused : (a : Answer) → isRefusal a ≡ false → refusalNumber a ≡ accepted
+unrefused (Value v) h = refl
+unrefused Done h = refl
+unrefused Success h = refl
+unrefused Failure h = refl
+unrefused True h = refl
+unrefused False h = refl
+unrefused Aborted h = refl
+unrefused (Refused n) h = absurd (true≢false h)
 
 either-accepts : (b : Bool) (x y : Outcome) → Accepts x → Accepts y → Accepts (pick b x y)
 either-accepts true x y h h' = h
@@ -98,34 +114,37 @@ module _ (d : Dims) (p w : ℕ) where
         let t = begun p s in
         either-accepts (TSTATUS t p) _ _ (seek-accepts op (dropLine d p w t)) refl
 
--- where a refusal is answered, the state is s
-abbrev Stays : Caches → Outcome → Type 0
-Stays s r = refusalOf r ≢ accepted → r .after ≡ s
+-- an answer is a refusal where it has a refusal's number, and there the state is s
+abbrev Tells : Caches → Outcome → Type 0
+Tells s r = (isRefused r ≡ not (eqb (refusalOf r) accepted)) × (refusalOf r ≢ accepted → r .after ≡ s)
 
-either-stays : (s : Caches) (b : Bool) (x y : Outcome) → Stays s x → Stays s y → Stays s (pick b x y)
-either-stays s true x y h h' = h
-either-stays s false x y h h' = h'
+either-tells : (s : Caches) (b : Bool) (x y : Outcome) → Tells s x → Tells s y → Tells s (pick b x y)
+either-tells s true x y h h' = h
+either-tells s false x y h h' = h'
 
 module _ (d : Dims) (x : Step) (s : Caches) where
-  allowed-stays : (r : Outcome) → Accepts r → Stays s (allowed d x s r)
-  allowed-stays r h = by (eqb (operandsRefusal d x) accepted)
+  allowed-tells : (r : Outcome) → Accepts r → Tells s (allowed d x s r)
+  allowed-tells r h = by (eqb (operandsRefusal d x) accepted) refl
     where
-      by : (b : Bool) → Stays s (pick b r (refused (operandsRefusal d x) s))
-      by true = λ no. absurd (no h)
-      by false = λ no. refl
+      n : refusalOf r ≡ accepted
+      n = unrefused (r .told .answer) h
 
-  pub refused-stays : refusalOf (takeStep d x s) ≢ accepted → takeStep d x s .after ≡ s
+      by : (b : Bool) → eqb (operandsRefusal d x) accepted ≡ b → Tells s (pick b r (refused (operandsRefusal d x) s))
+      by true e = (rw (h, n), λ no. absurd (no n))
+      by false e = (rw e, λ no. refl)
+
+  taken-tells : Tells s (takeStep d x s)
   unfolding takeStep commit abort validate interrupt
-  refused-stays =
-      either-stays s (eqb op LOAD) _ _ (allowed-stays _ (load-accepts d p w s))
-      (either-stays s (eqb op STORE) _ _ (allowed-stays _ (store-accepts d p w v s))
-      (either-stays s (eqb op LT) _ _ (allowed-stays _ (transact-accepts d p w v LT s))
-      (either-stays s (eqb op LTX) _ _ (allowed-stays _ (transact-accepts d p w v LTX s))
-      (either-stays s (eqb op ST) _ _ (allowed-stays _ (transact-accepts d p w v ST s))
-      (either-stays s (eqb op COMMIT) _ _ (allowed-stays _ (either-accepts (TSTATUS s p) _ _ refl refl))
-      (either-stays s (eqb op ABORT) _ _ (allowed-stays _ refl)
-      (either-stays s (eqb op VALIDATE) _ _ (allowed-stays _ (either-accepts (TSTATUS s p) _ _ refl refl))
-      (either-stays s (eqb op INTERRUPT) _ _ (allowed-stays _ refl) (λ no. refl)))))))))
+  taken-tells =
+      either-tells s (eqb op LOAD) _ _ (allowed-tells _ (load-accepts d p w s))
+      (either-tells s (eqb op STORE) _ _ (allowed-tells _ (store-accepts d p w v s))
+      (either-tells s (eqb op LT) _ _ (allowed-tells _ (transact-accepts d p w v LT s))
+      (either-tells s (eqb op LTX) _ _ (allowed-tells _ (transact-accepts d p w v LTX s))
+      (either-tells s (eqb op ST) _ _ (allowed-tells _ (transact-accepts d p w v ST s))
+      (either-tells s (eqb op COMMIT) _ _ (allowed-tells _ (either-accepts (TSTATUS s p) _ _ refl refl))
+      (either-tells s (eqb op ABORT) _ _ (allowed-tells _ refl)
+      (either-tells s (eqb op VALIDATE) _ _ (allowed-tells _ (either-accepts (TSTATUS s p) _ _ refl refl))
+      (either-tells s (eqb op INTERRUPT) _ _ (allowed-tells _ refl) (refl, λ no. refl)))))))))
     where
       op : ℕ
       op = x .op
@@ -138,3 +157,9 @@ module _ (d : Dims) (x : Step) (s : Caches) where
 
       v : ℕ
       v = x .value
+
+  pub tells-refusal : isRefused (takeStep d x s) ≡ not (eqb (refusalOf (takeStep d x s)) accepted)
+  tells-refusal = taken-tells .0
+
+  pub refused-stays : refusalOf (takeStep d x s) ≢ accepted → takeStep d x s .after ≡ s
+  refused-stays = taken-tells .1
