@@ -1,3 +1,7 @@
+use mathlib.Core.Path.{_≡_, sym, _∙_}
+use mathlib.Core.Bool.{true, false}
+use Rattle.text.specs.Quoted.{bytes}
+use Rattle.text.specs.Names.{sameText}
 use Rattle.listing.specs.Place.{past, headerOk, beginAt}
 use borrow.Author.Tests.{ne-eqb, not-true, not-false}
 use borrow.Author.Needs.{needs}
@@ -28,13 +32,9 @@ unfolding beginAt headerOk
 returns-2 c =
     let c1 = c .before .before .before .before in
     let c2 = c1 .before in
-    rw (
-      c2 .if1 .left,
-      ← c1 .record-end .ensures,
-      ← c .before .before .text-is .ensures,
-      not-true (c .before .before .text-is .result) (c .before .if2 .taken),
-    )
-    (c .first-place2 .ensures)
+    let other : sameText _ 0 _ (bytes "grant,core,op,word,value") ≡ false =
+        sym (c .before .before .text-is .ensures) ∙ not-true (c .before .before .text-is .result) (c .before .if2 .taken) in
+    rw (c2 .if1 .left, ← c1 .record-end .ensures, other) (c .first-place2 .ensures)
 
 past-requires : tie.Need-past-requires
 past-requires c κs = search needs
@@ -48,14 +48,9 @@ returns-3 c =
     let c1 = c .before .before .before in
     let c2 = c1 .before .before in
     let c3 = c2 .before in
-    rw (
-      c3 .if1 .left,
-      ← c2 .record-end .ensures,
-      ← c1 .text-is .ensures,
-      not-false (c1 .text-is .result) (c .before .before .if2 .left),
-      ← c .before .past .ensures,
-    )
-    (c .first-place3 .ensures)
+    let ours : sameText _ 0 _ (bytes "grant,core,op,word,value") ≡ true =
+        sym (c1 .text-is .ensures) ∙ not-false (c1 .text-is .result) (c .before .before .if2 .left) in
+    rw (c3 .if1 .left, ← c2 .record-end .ensures, ours, ← c .before .past .ensures) (c .first-place3 .ensures)
 
 pub begin-at-spec : {M : Type 1} → statement M
 begin-at-spec =

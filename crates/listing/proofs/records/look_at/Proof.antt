@@ -1,6 +1,6 @@
 use borrow.Author.Tests.{lt-leb, le-leb}
 use Rattle.listing.specs.Place.{past}
-use Rattle.listing.specs.Records.{lookAt}
+use Rattle.listing.specs.Records.{mostBytes, lookAt}
 use borrow.Author.Needs.{needs}
 use Rattle.listing.proofs.records.look_at.Statement.{statement}
 use Rattle.listing.proofs.records.look_at.Tie as tie
@@ -21,7 +21,7 @@ returns c =
     rw (
       ← c1 .record-end .ensures,
       ← c .before .before .past .ensures,
-      lt-leb _ _ (c .before .if1 .taken),
+      lt-leb _ mostBytes (c .before .if1 .taken),
     )
     (c .unread .ensures)
 
@@ -50,7 +50,7 @@ returns-2 c =
     rw (
       ← c4 .record-end .ensures,
       ← c3 .past .ensures,
-      le-leb _ _ (c2 .if1 .left),
+      le-leb _ mostBytes (c2 .if1 .left),
       ← c1 .read-record .ensures,
       c .before .before .n .given .1,
     )
@@ -66,7 +66,7 @@ returns-3 c =
     rw (
       ← c4 .record-end .ensures,
       ← c3 .past .ensures,
-      le-leb _ _ (c2 .if1 .left),
+      le-leb _ mostBytes (c2 .if1 .left),
       ← c1 .read-record .ensures,
       c .before .before .f .given .1,
       c .grant-refusal .ensures,

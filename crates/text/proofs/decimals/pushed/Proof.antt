@@ -1,4 +1,5 @@
 use borrow.Author.Tests.{lt-ltb, le-ltb}
+use Rattle.text.specs.Marks.{NUMBER-MOST}
 use Rattle.text.specs.Decimals.{push}
 use Rattle.text.proofs.Cases.{is-bad}
 use borrow.Author.Needs.{needs}
@@ -44,7 +45,7 @@ returns-4 c =
       ← c .before .before .wide .ensures .0,
       le-ltb _ _ (c .before .before .before .before .if1 .left),
       le-ltb _ _ (c .before .before .before .if2 .left),
-      lt-ltb _ _ (c .if3 .taken),
+      lt-ltb NUMBER-MOST _ (c .if3 .taken),
     )
 
 cast-t10 : tie.Need-cast-t10
