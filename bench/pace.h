@@ -15,8 +15,8 @@ enum { CYCLE_KINDS = 6 };
  * where the machine is refused. */
 int pace_prepare(const struct trace *trace);
 
-/* Empties the columns of answers; then the part that is timed: a run of the trace
- * from a copy of the fresh machine. */
+/* Empties the columns of answers and copies the fresh machine; then the part that
+ * is timed: a run of the trace from it. */
 void pace_clear(void);
 void pace_run(void);
 

@@ -30,11 +30,11 @@ void pace_clear(void)
     memset(answers, 0, sizeof answers);
     memset(results, 0, sizeof results);
     memset(counts, 0, sizeof counts);
+    memcpy(state, fresh, sizeof state);
 }
 
 void pace_run(void)
 {
-    memcpy(state, fresh, sizeof state);
     refusal = stirnfeld_run(
         state, ops, steps, cores, steps, words, steps, values, steps, answers, steps,
         results, steps, counts[0], steps, counts[1], steps, counts[2], steps, counts[3],

@@ -30,11 +30,11 @@ int pace_prepare(const struct trace *trace)
 void pace_clear(void)
 {
     memset(answers, 0, sizeof answers);
+    machine = fresh;
 }
 
 void pace_run(void)
 {
-    machine = fresh;
     ran = machine_run(&machine, &(struct columns){
         steps, cores, words, values, answers, length, length, length, length, length});
 }

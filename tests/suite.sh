@@ -1,5 +1,5 @@
 # shellcheck shell=sh disable=SC2154
-# What the run scripts of tests/c/, tests/machine/, tests/second/ and tests/text/ share. They have set `top` and `build`. tests/gate/ tests it.
+# What the run scripts of the suites under tests/ and of bench/ share. They have set `top` and `build`. tests/gate/ tests it.
 
 # rt tells every crate that it proves: that is of use only where it fails.
 quiet_rt() { # ARGUMENT..

@@ -9,9 +9,11 @@ use Rattle.entry.specs.Numbers.{INVALID, NORMAL, TENTATIVE}
 use Rattle.rules.specs.Own.{findEntry}
 use Rattle.caches.specs.declared.Own.{Own}
 
+-- an entry of any tag but INVALID
 abbrev pub used : Entry → Bool
 used e = not (eqb (e .tag) INVALID)
 
+-- one that holds the word
 abbrev pub usedFor : Entry → ℕ → Bool
 usedFor e word = both (used e) (eqb (e .word) word)
 

@@ -55,6 +55,7 @@ refusalNumber False = 0
 refusalNumber Aborted = 0
 refusalNumber (Refused n) = n
 
+-- whether an answer is a refusal
 abbrev pub isRefusal : Answer → Bool
 isRefusal (Value v) = false
 isRefusal Done = false

@@ -1,5 +1,5 @@
 -- One copy of a word as one number: data in bits 0 to 31, word in 32 to 39, tag in 40 and 41, state in 42 and 43. An invalid copy is 0.
--- No other file names a bit. Division is nested, as the laws need it.
+-- No other definition names a bit. Division is nested, as the laws need it.
 use mathlib.Core.Path.{_≡_, refl, ap}
 use Prim.Native.Nat.{ℕ, _+_, _*_, _/_, _%_, _<_}
 use native.Mathlib.Omega.{arith}

@@ -7,6 +7,7 @@ use Rattle.laws.specs.Choice.{either}
 use Rattle.entry.specs.declared.step.Step.{Step}
 use Rattle.entry.specs.Numbers.{LOAD, STORE, LT, LTX, ST}
 
+-- a step by its four fields
 abbrev pub step : ℕ → ℕ → ℕ → ℕ → Step
 step op core word value = record { op = op; core = core; word = word; value = value }
 

@@ -4,7 +4,7 @@
 use crate::numbers::BACKUP;
 use crate::numbers::TENTATIVE;
 ghost use mathlib.Core.Path.{_≡_};
-ghost use Prim.Native.Nat.{_+_, _*_, _/_, _%_, _≤_};
+ghost use Prim.Native.Nat.{_/_, _%_, _≤_};
 ghost use lib.Dec.{eqb, ltb};
 ghost use Rattle.laws.specs.Choice.{pick, both};
 ghost use Rattle.entry.specs.Numbers.{NORMAL, BACKUP};

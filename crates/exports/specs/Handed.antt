@@ -19,10 +19,10 @@ use Rattle.exports.specs.Array.{machineIn, arrayOf, heldOk}
 
 pub record Handed (A : Type 0) : Type 0 where
   pub refusal : ℕ
-  pub lent : A
+  pub stands : A
 
 abbrev pub handed : {A : Type 0} → ℕ → A → Handed A
-handed n x = record { refusal = n; lent = x }
+handed n x = record { refusal = n; stands = x }
 
 -- "A refusal gives its number ..; state and columns stay.": the number n, and what was lent becomes new only where n refuses nothing
 abbrev pub handedBy : {A : Type 0} → ℕ → A → A → Handed A
@@ -81,6 +81,7 @@ runLent n s c = record { taken = n; state = s; columns = c }
 abbrev pub ranIn : List ℕ → Ran → Columns → Handed RunLent
 ranIn s r c = handed (r .refusal) (runLent (r .taken) (pick (eqb (r .taken) 0) s (arrayOf (r .machine))) c)
 
+-- a run from the machine that the array holds
 unfoldable pub runIn : List ℕ → Steps → Columns → Handed RunLent
 runIn s x c =
     let r = runOf (machineIn s) x c in

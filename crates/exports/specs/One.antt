@@ -9,6 +9,7 @@ use Rattle.rules.specs.Run.{Steps, steps, Columns, columns, Left}
 abbrev pub alone : Step → Steps
 alone x = steps (x .op ∷ []) (x .core ∷ []) (x .word ∷ []) (x .value ∷ [])
 
+-- columns of one place that nothing was written to
 abbrev pub unwritten : Columns
 unwritten = columns (0 ∷ []) (0 ∷ []) (0 ∷ []) (0 ∷ []) (0 ∷ []) (0 ∷ []) (0 ∷ []) (0 ∷ [])
 

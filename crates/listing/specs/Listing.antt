@@ -10,7 +10,7 @@ use Rattle.entry.specs.Answer.{refusedBy}
 use Rattle.rules.specs.declared.Dims.{Dims}
 use Rattle.rules.specs.State.{Caches}
 use Rattle.rules.specs.Lent.{Numbers, before, after, returned}
-use Rattle.listing.specs.declared.pieces.Filled.{Filled}
+use Rattle.listing.specs.declared.pieces.Reached.{Reached}
 use Rattle.listing.specs.declared.places.Place.{Place}
 use Rattle.listing.specs.Place.{HEADER, REFUSAL, RECORD, END, NOTHING, withPhase, more64, firstPhase}
 use Rattle.listing.specs.Lines.{mostLine, answerLine, endLine, headerLine}
@@ -56,10 +56,10 @@ abbrev pub wroteLine : Did → ℕ → List ℕ → Filling Going
 wroteLine r used o = filling (going (r .place) (r .after)) (used + length (r .line)) (sets o used (r .line))
 
 -- what a function leaves that is lent a buffer: where the replay stands, with the caches, and the buffer
-abbrev pub fillsBy : Filled → Numbers → Caches → Filling Going
+abbrev pub fillsBy : Reached → Numbers → Caches → Filling Going
 fillsBy r out c = filling (going (r .place) c) (r .used) (after out)
 
-abbrev pub fills : Filled → (out m l e f : Numbers) → Filling Going
+abbrev pub fills : Reached → (out m l e f : Numbers) → Filling Going
 fills r out m l e f = fillsBy r out (returned m l e f)
 
 abbrev pub wroteIn : Did → ℕ → Numbers → Filling Going

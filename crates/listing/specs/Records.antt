@@ -21,6 +21,7 @@ use Rattle.listing.specs.declared.places.Place.{Place}
 use Rattle.listing.specs.declared.records.Looked.{Looked}
 use Rattle.listing.specs.Place.{END, placeOf, more64, past, phaseAt}
 
+-- 14: "the record that holds input byte 4,194,305"
 abbrev pub mostBytes : ℕ
 mostBytes = 4194304
 
@@ -32,6 +33,7 @@ rises x grant = pick (x .taken) (ltb (x .grant) grant) true
 unfoldable pub grantRefusal : Place → ℕ → ℕ
 grantRefusal x grant = unless (rises x grant) notRising accepted
 
+-- what stands for the fields of a record that is not read
 abbrev pub noFields : Parsed
 noFields = record { grant = 0; step = step 0 0 0 0 }
 
@@ -55,6 +57,7 @@ lookAt s x =
 unfoldable pub answerOf : Dims → Looked → Caches → Outcome
 answerOf d l c = unless (eqb (l .refusal) accepted) (refused (l .refusal) c) (takeStep d (l .fields .step) c)
 
+-- how many "successful commits" an answer counts
 abbrev pub isSuccess : Answer → ℕ
 isSuccess (Value v) = 0
 isSuccess Done = 0

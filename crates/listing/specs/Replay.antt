@@ -39,6 +39,7 @@ abbrev pub pieceLeft : Dims → Filling Going → PieceLeft
 pieceLeft d c =
     pieceLeftBy (record { used = c .used; replaying = replaying (c .state .place) (machineOf d (c .state .caches)) }) (c .buffer)
 
+-- the next piece of the listing in the buffer o, and what stands after it
 unfoldable pub nextPiece : List ℕ → Replaying → List ℕ → PieceLeft
 nextPiece s x o = pieceLeft (x .machine .dims) (fillOf s (x .machine .dims) (goingOf x) o)
 

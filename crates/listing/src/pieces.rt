@@ -31,7 +31,7 @@ ghost use Rattle.listing.specs.Listing.{going, fillsBy, fills, wroteIn, 
 ghost use Rattle.rules.specs.Lent.{before, lent};
 
 // Where the replay stands, and how much of the buffer is written.
-pub struct Filled {
+pub struct Reached {
     pub place: Place,
     pub used: usize,
 }
@@ -46,7 +46,7 @@ fn do_record(
     flags: &mut Flags,
     d: Dims,
     x: Place,
-) -> Filled
+) -> Reached
     requires { ⌜ used + mostLine ≤ length (now out) ⌝ }
     ensures { λ r. ⌜ fills r out memory lines entries flags ≡ wroteIn (doRecord (before s) d x (lent memory lines entries flags)) used out ⌝ }
 {
@@ -55,14 +55,14 @@ fn do_record(
     let number = more(x.number, 1);
     let k = write_answer(out, used, number, told);
     let next = place_after(s, x, l, told);
-    Filled {
+    Reached {
         place: next,
         used: k,
     }
 }
 
 // The header, a refusal before any record, or the end.
-fn do_other(s: &[u8], out: &mut [u8], used: usize, x: Place) -> Filled
+fn do_other(s: &[u8], out: &mut [u8], used: usize, x: Place) -> Reached
     requires { ⌜ used + mostLine ≤ length (now out) ⌝ }
     ensures { λ r. ⌜ ((c : Caches) → fillsBy r out c ≡ wroteIn (doOther (before s) x c) used out) ⌝ }
 {
@@ -70,7 +70,7 @@ fn do_other(s: &[u8], out: &mut [u8], used: usize, x: Place) -> Filled
         let k = write_header(out, used);
         let phase = first_phase(s, x);
         let next = with_phase(x, phase);
-        return Filled {
+        return Reached {
             place: next,
             used: k,
         };
@@ -79,14 +79,14 @@ fn do_other(s: &[u8], out: &mut [u8], used: usize, x: Place) -> Filled
         let told = Answered::refused(x.refusal);
         let k = write_answer(out, used, 0, told);
         let next = with_phase(x, END);
-        return Filled {
+        return Reached {
             place: next,
             used: k,
         };
     }
     let k = write_end(out, used, x.commits, x.cycles);
     let next = with_phase(x, NOTHING);
-    Filled {
+    Reached {
         place: next,
         used: k,
     }
@@ -102,7 +102,7 @@ fn do_line(
     flags: &mut Flags,
     d: Dims,
     x: Place,
-) -> Filled
+) -> Reached
     requires { ⌜ used + mostLine ≤ length (now out) ⌝ }
     ensures { λ r. ⌜ fills r out memory lines entries flags ≡ wroteIn (doLine (before s) d x (lent memory lines entries flags)) used out ⌝ }
 {
@@ -130,7 +130,7 @@ pub(crate) fn fill(
     flags: &mut Flags,
     d: Dims,
     first: Place,
-) -> Filled
+) -> Reached
     ensures { λ r.
         let from = going first (lent memory lines entries flags) in
         ⌜ fills r out memory lines entries flags ≡ fillOf (before s) d from (before out) ⌝ }
@@ -140,13 +140,13 @@ pub(crate) fn fill(
     let mut used: usize = 0;
     loop {
         if x.phase >= NOTHING {
-            return Filled {
+            return Reached {
                 place: x,
                 used: used,
             };
         }
         if !has_room(room, used) {
-            return Filled {
+            return Reached {
                 place: x,
                 used: used,
             };

@@ -14,6 +14,7 @@ use rules::Machine;
 use rules::Made;
 use rules::Settle;
 use rules::Stepped;
+use rules::narrowed;
 ghost use mathlib.Core.Path.{_≡_};
 ghost use Rattle.rules.specs.State.{cachesOf};
 ghost use Rattle.rules.specs.Making.{dims, makeOf};
@@ -71,8 +72,7 @@ pub fn settled(m: Machine, word: u32) -> Answer
     let lines = m.lines;
     let entries = m.entries;
     let flags = m.flags;
-    let w = (word % 256) as u8;
-    let v = settling::settled_in(&memory, &lines, &entries, &flags, d, w);
+    let v = settling::settled_in(&memory, &lines, &entries, &flags, d, narrowed(word));
     Answer::Value(v)
 }
 

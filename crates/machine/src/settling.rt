@@ -9,6 +9,7 @@ use rules::Copies;
 use rules::Dims;
 use rules::Flags;
 use rules::Memory;
+use rules::place;
 ghost use mathlib.Core.Path.{_≡_};
 ghost use Prim.Native.Nat.{_≤_};
 ghost use Rattle.rules.specs.Step.{settledAll};
@@ -58,7 +59,7 @@ fn settling_entry(entries: &Copies, q: usize, n: usize, word: u8) -> usize
 fn does_settle(lines: &Copies, entries: &Copies, d: Dims, i: usize, word: u8, q: usize) -> bool
     ensures { λ r. ⌜ r ≡ settles d i word (before lines) (before entries) q ⌝ }
 {
-    let j = q % 8 * 64 + i % 64;
+    let j = place(q, i);
     let e = Entry::unpack(lines[j]);
     if is_dirty(e, word) {
         return true;
@@ -100,13 +101,13 @@ pub(crate) fn settled_in(
         let a = word as usize;
         return memory[a];
     }
-    let j = q % 8 * 64 + i % 64;
+    let j = place(q, i);
     let line = Entry::unpack(lines[j]);
     if is_dirty(line, word) {
         return line.data;
     }
     let k = settling_entry(entries, q, d.entries, word);
-    let at = q % 8 * 64 + k % 64;
+    let at = place(q, k);
     let e = Entry::unpack(entries[at]);
     e.data
 }

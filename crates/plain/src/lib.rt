@@ -6,7 +6,6 @@ use entry::answer::Answered;
 use entry::answer::Counts;
 use entry::numbers::DIRTY;
 use entry::numbers::INVALID;
-use entry::numbers::NORMAL;
 use entry::numbers::READ;
 use entry::numbers::RESERVED;
 use entry::numbers::RFO;

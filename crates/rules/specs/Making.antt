@@ -56,6 +56,7 @@ smallest = machineOf (dims 1 1 1 1) (fresh (dims 1 1 1 1) (0 ∷ []))
 abbrev pub made : ℕ → Machine → Made
 made n m = record { refusal = n; machine = m }
 
+-- 1 to 5 refuse a making, with the smallest machine handed back; else the machine is fresh
 unfoldable pub makeOf : Dims → List ℕ → Made
 makeOf d memory =
     let m = machineOf d (fresh d memory) in

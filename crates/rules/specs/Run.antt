@@ -88,6 +88,7 @@ columnsOk x c =
     length (c .busy) ∷
     [])
 
+-- what a run carries from step to step
 pub record Carried : Type 0 where
   pub state : Caches
   pub columns : Columns
@@ -114,6 +115,7 @@ module _ (d : Dims) (x : Steps) where
   abbrev pub stopsAt : ℕ → Carried → Bool
   stopsAt i c = not (eqb (refusalAt i (c .state)) accepted)
 
+  -- a step taken: the next state, and its answer in the columns
   abbrev pub turn : ℕ → Carried → Carried
   turn i c = let r = outcomeAt i (c .state) in carried (r .after) (written (c .columns) i (r .told))
 
@@ -125,6 +127,7 @@ module _ (d : Dims) (x : Steps) where
   unfoldable pub runSound : Caches → Columns → Left
   runSound s c = stopped (length (x .ops)) (untilRange stopsAt turn 0 (length (x .ops)) (carried s c))
 
+-- 9, then 10, then the run
 unfoldable pub runOf : Machine → Steps → Columns → Left
 runOf m x c =
     let r = runSound (m .dims) x (cachesOf m) c in

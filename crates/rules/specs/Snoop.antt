@@ -48,6 +48,7 @@ snoopEntry d word cycle q s =
     let t = caches (writtenBack (s .memory) e) (s .lines) (withCopy (s .entries) q i (snooped cycle e)) (s .flags) in
     pick (ltb i (d .entries)) t s
 
+-- processor q takes part, unless it is p
 unfoldable pub snoopOne : Dims → ℕ → ℕ → ℕ → ℕ → ℕ → Caches → Caches
 snoopOne d i p word cycle q s = pick (eqb q p) s (snoopEntry d word cycle q (snoopLine i word cycle q s))
 
@@ -65,6 +66,7 @@ opposes d word cycle q es =
 abbrev pub otherOpposes : Dims → ℕ → ℕ → ℕ → List ℕ → ℕ → Bool
 otherOpposes d p word cycle es q = both (not (eqb q p)) (opposes d word cycle q es)
 
+-- the first other processor that opposes, else how many there are
 unfoldable pub firstOpposing : Dims → ℕ → ℕ → ℕ → List ℕ → ℕ
 firstOpposing d p word cycle es = firstFrom (otherOpposes d p word cycle es) 0 (d .processors)
 
@@ -72,6 +74,7 @@ firstOpposing d p word cycle es = firstFrom (otherOpposes d p word cycle es) 0 (
 unfoldable pub refuses : Dims → ℕ → ℕ → ℕ → List ℕ → Bool
 refuses d p word cycle es = ltb (firstOpposing d p word cycle es) (d .processors)
 
+-- processor q is rolled back where it opposes
 unfoldable pub rollOne : Dims → ℕ → ℕ → ℕ → ℕ → Caches → Caches
 rollOne d p word cycle q s = pick (otherOpposes d p word cycle (s .entries) q) (rollback d q s) s
 

@@ -71,6 +71,7 @@ isOwned owners e j = pick (eqb (getD owners (e .word) 0) 0) true (eqb (getD owne
 abbrev pub isOnly : List ℕ → ℕ → Entry → ℕ → Bool
 isOnly marks kind e j = eqb (getD marks (markKey e j) 0) (markValue kind j)
 
+-- the test of what a line and an entry have in common
 unfoldable pub copyOk : List ℕ → List ℕ → List ℕ → ℕ → ℕ → Entry → ℕ → Bool
 copyOk memory marks owners words kind e j =
     both (ltb (e .word) words) (both (isClean memory e) (both (isOwned owners e j) (isOnly marks kind e j)))
@@ -79,6 +80,7 @@ copyOk memory marks owners words kind e j =
 unfoldable pub isHome : Dims → Entry → ℕ → Bool
 isHome d e i = eqb (e .word % (d .lines)) i
 
+-- the test of the line x at place j
 unfoldable pub lineOk : List ℕ → List ℕ → List ℕ → Dims → ℕ → ℕ → Bool
 lineOk memory marks owners d x j =
     let e = unpack x in
@@ -110,6 +112,7 @@ backupOk marks entries e j =
     let k = partnerPlace marks e j in
     pick (eqb (e .tag) BACKUP) (isPartner e j (unpack (getD entries k 0)) k) true
 
+-- the test of the entry x at place j
 unfoldable pub entryOk : List ℕ → List ℕ → List ℕ → List ℕ → List ℕ → Dims → ℕ → ℕ → Bool
 entryOk memory marks owners entries flags d x j =
     let e = unpack x in
@@ -159,6 +162,7 @@ lengthsOk s =
     both (eqb (length (s .memory)) 256)
     (both (eqb (length (s .lines)) 512) (both (eqb (length (s .entries)) 512) (eqb (length (s .flags)) 16)))
 
+-- 9: the test of a whole state, in the order of 'Sound states'
 unfoldable pub soundOf : Dims → Caches → Bool
 soundOf d s =
     both (lengthsOk s)

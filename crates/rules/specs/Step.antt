@@ -90,6 +90,7 @@ settleTurn d s word values = set values word (settledIn d word s)
 unfoldable pub settledAll : Dims → Caches → List ℕ
 settledAll d s = foldRange (settleTurn d s) 0 (d .words) (replicate 256 0)
 
+-- every word's settled value, or 9
 unfoldable pub settleOf : Machine → Settle
 settleOf m =
     let a = settledAll (m .dims) (cachesOf m) in

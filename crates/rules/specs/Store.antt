@@ -50,5 +50,6 @@ storeLine d p word v k =
     (gives Done (quiet (k .writes)) (withLine s p i (entry DIRTY INVALID word v))))
     (storeMiss d p word v (k .writes) s)
 
+-- STORE: its three sentences, one after the other
 unfoldable pub store : Dims → ℕ → ℕ → ℕ → Caches → Outcome
 store d p word v s = storeLine d p word v (dropNormal d p word (rollOwn d p word s))

@@ -73,6 +73,7 @@ openNormal d p i s =
 unfoldable pub clearBackup : Dims → ℕ → ℕ → Caches → Counted
 clearBackup d p b s = pick (ltb b (d .entries)) (counted (writes (entryAt s p b)) (clearEntry s p b)) (counted 0 s)
 
+-- the backup e in slot b, if there is one
 unfoldable pub fillBackup : Dims → ℕ → ℕ → Entry → List ℕ → List ℕ
 fillBackup d p b e es = pick (ltb b (d .entries)) (withCopy es p b e) es
 
@@ -93,6 +94,7 @@ request d op p i b word v w s =
     (busy d p (requestOf op) w s)
     (fill d op p i b word (wordAt t word) v w t)
 
+-- a miss that takes slot i: both slots are found and cleared, then the bus is asked
 unfoldable pub missAt : Dims → ℕ → ℕ → ℕ → ℕ → ℕ → ℕ → Caches → Outcome
 missAt d op p i word v w1 s =
     let t = clearEntry s p i in

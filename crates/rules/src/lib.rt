@@ -3,6 +3,7 @@
 use entry::answer::Answered;
 ghost use mathlib.Core.Path.{_≡_};
 ghost use Rattle.rules.specs.State.{place};
+ghost use Rattle.rules.specs.Step.{narrowed};
 
 pub struct Dims {
     pub processors: usize,
@@ -33,6 +34,13 @@ pub fn place(p: usize, i: usize) -> usize
     ensures { λ r. ⌜ r ≡ place p i ⌝ }
 {
     p % 8 * 64 + i % 64
+}
+
+// The byte that the caches know a word by.
+pub fn narrowed(word: u32) -> u8
+    ensures { λ r. ⌜ r ≡ narrowed word ⌝ }
+{
+    (word % 256) as u8
 }
 
 // refusal is 0 where the machine was made.

@@ -1,1 +1,1 @@
-// No code: the bus machine's definitions agree with one plain memory, and keep a sound state sound.
+// No code: the machine's definitions agree with one plain memory, and keep a sound state sound.

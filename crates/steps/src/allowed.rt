@@ -11,6 +11,7 @@ use rules::Copies;
 use rules::Dims;
 use rules::Flags;
 use rules::Memory;
+use rules::narrowed;
 ghost use mathlib.Core.Path.{_≡_};
 ghost use Rattle.rules.specs.State.{outcome};
 ghost use Rattle.rules.specs.Load.{load};
@@ -35,12 +36,6 @@ fn operands_refusal(d: Dims, step: Step) -> u8
         return NO_SUCH_WORD;
     }
     ACCEPTED
-}
-
-fn narrowed(word: u32) -> u8
-    ensures { λ r. ⌜ r ≡ narrowed word ⌝ }
-{
-    (word % 256) as u8
 }
 
 pub(crate) fn load(

@@ -133,7 +133,7 @@ agree→coherent {S} {M} n A b = record {
       (λ h. f .2 .0 ∙ sym (clean-cell (A .words w) p e refl h)),
     )
 
--- the view is takenCopy with every DIRTY tentative copy as stored to
+-- the view is taken with every DIRTY tentative copy as stored to
 abbrev pub coarse : Copy → Type 0
 coarse none = Unit {0}
 coarse (regular s d) = Unit {0}

@@ -72,7 +72,7 @@ takenCopy (tentative s d b t) = none
 pub data Kind : Type 0 where
   reading owning : Kind
 
--- what opposing T_READ, or is rolled back by READ; and what opposing T_RFO, or is rolled back by RFO and WRITE
+-- what opposes T_READ, or is rolled back by READ; and what opposes T_RFO, or is rolled back by RFO and WRITE
 abbrev pub opposing : Kind → Copy → Bool
 opposing reading k = tentativeAbove k
 opposing owning k = isTentative k
@@ -91,7 +91,7 @@ pub record Plainly (k : Kind) (n p w : ℕ) (S S′ : View) : Type 0 where
   pub rolls : Each (RollIf (opposing k) p w) n S mid
   pub asks : Each (Snooped (snoops k) supplied p w) n mid S′
 
--- T_READ, T_RFO: nobody opposing
+-- T_READ, T_RFO: nobody opposes
 pub record Granted (k : Kind) (n p w : ℕ) (S S′ : View) : Type 0 where
   pub nobody : (q : ℕ) → q ≢ p → opposing k (S .copy w q) ≡ false
   pub asks : Each (Snooped (snoops k) supplied p w) n S S′
@@ -167,7 +167,7 @@ pub data Obtained (k : Kind) (n p w : ℕ) (S S′ : View) : Type 0 where
       → OnlyWord p w S₃ S′ → (b ≡ bare) ⊎ (b ≡ backup (granted k) (S₃ .memory w)) → S′ .copy w p ≡ tentative (granted k) (S₃ .memory w) b false
       → S′ .memory w ≡ S₃ .memory w → Obtained k n p w S S′
 
--- or there is no room, or another processor opposing: then p is rolled back
+-- or there is no room, or another processor opposes: then p is rolled back
 pub data Busy (k : Kind) (p w : ℕ) (S : View) : Type 0 where
   busy : (q : ℕ) → q ≢ p → opposing k (S .copy w q) ≡ true → Busy k p w S
 

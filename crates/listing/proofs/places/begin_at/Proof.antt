@@ -33,7 +33,7 @@ returns-2 c =
     let c1 = c .before .before .before .before in
     let c2 = c1 .before in
     let other : sameText _ 0 _ (bytes "grant,core,op,word,value") ≡ false =
-        sym (c .before .before .text-is .ensures) ∙ not-true (c .before .before .text-is .result) (c .before .if2 .taken) in
+    sym (c .before .before .text-is .ensures) ∙ not-true (c .before .before .text-is .result) (c .before .if2 .taken) in
     rw (c2 .if1 .left, ← c1 .record-end .ensures, other) (c .first-place2 .ensures)
 
 past-requires : tie.Need-past-requires
@@ -49,7 +49,7 @@ returns-3 c =
     let c2 = c1 .before .before in
     let c3 = c2 .before in
     let ours : sameText _ 0 _ (bytes "grant,core,op,word,value") ≡ true =
-        sym (c1 .text-is .ensures) ∙ not-false (c1 .text-is .result) (c .before .before .if2 .left) in
+    sym (c1 .text-is .ensures) ∙ not-false (c1 .text-is .result) (c .before .before .if2 .left) in
     rw (c3 .if1 .left, ← c2 .record-end .ensures, ours, ← c .before .past .ensures) (c .first-place3 .ensures)
 
 pub begin-at-spec : {M : Type 1} → statement M

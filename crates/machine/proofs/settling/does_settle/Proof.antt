@@ -3,11 +3,8 @@ use borrow.Author.Needs.{needs}
 use Rattle.machine.proofs.settling.does_settle.Statement.{statement}
 use Rattle.machine.proofs.settling.does_settle.Tie as tie
 
-mul-j : tie.Need-mul-j
-mul-j c = search needs
-
-add-j : tie.Need-add-j
-add-j c = search needs
+place-requires : tie.Need-place-requires
+place-requires c κs = search needs
 
 mul-unpack : tie.Need-mul-unpack
 mul-unpack c = search needs
@@ -23,28 +20,22 @@ is-dirty-requires c κs = search needs
 
 returns : tie.Need-returns
 unfolding settles
-returns c = rw (← (rw (c .before .before .unpack .ensures) at (c .before .is-dirty .ensures)), c .if1 .taken)
+returns c = let u = rw (c .before .before .before .before .place .ensures) at (c .before .before .unpack .ensures) in
+    rw (← (rw u at (c .before .is-dirty .ensures)), c .if1 .taken)
 
 settling-entry-requires : tie.Need-settling-entry-requires
 settling-entry-requires c κs = search needs
 
 returns-2 : tie.Need-returns-2
 unfolding settles
-returns-2 c =
-    let c1 = c .before .before .before in
-    let c2 = c1 .before in
-    rw (
-      ← (rw (c2 .unpack .ensures) at (c1 .is-dirty .ensures)),
-      c .before .before .if1 .left,
-      ← c .before .settling-entry .ensures,
-    )
+returns-2 c = let u = rw (c .before .before .before .before .before .before .place .ensures) at (c .before .before .before .before .unpack .ensures) in
+    rw (← (rw u at (c .before .before .before .is-dirty .ensures)), c .before .before .if1 .left, ← c .before .settling-entry .ensures)
 
 pub does-settle-spec : {M : Type 1} → statement M
 does-settle-spec =
     tie.close
     (tie.spec
-    mul-j
-    add-j
+    place-requires
     mul-unpack
     element-copy-out-unpack
     unpack-requires

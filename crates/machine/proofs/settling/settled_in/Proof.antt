@@ -18,20 +18,10 @@ element-copy-out-result c = search needs
 
 returns : tie.Need-returns
 unfolding settledIn
-returns c =
-    let c1 = c .before .before .before in
-    let c2 = c1 .before in
-    rw (
-      ← c2 .home .ensures,
-      ← c1 .find-settler .ensures,
-      le-ltb _ _ (c .before .if1 .taken),
-    )
+returns c = rw (← c .before .before .before .before .home .ensures, ← c .before .before .before .find-settler .ensures, le-ltb _ _ (c .before .if1 .taken))
 
-mul-j : tie.Need-mul-j
-mul-j c = search needs
-
-add-j : tie.Need-add-j
-add-j c = search needs
+place-requires : tie.Need-place-requires
+place-requires c κs = search needs
 
 mul-unpack : tie.Need-mul-unpack
 mul-unpack c = search needs
@@ -47,27 +37,21 @@ is-dirty-requires c κs = search needs
 
 returns-2 : tie.Need-returns-2
 unfolding settledIn
-returns-2 c =
-    let c1 = c .before .before .before .before in
-    let c2 = c1 .before .before in
-    let c3 = c2 .before in
+returns-2 c = let u = rw (c .before .before .before .before .place .ensures) at (c .before .before .unpack .ensures) in
     rw (
-      ← c3 .home .ensures,
-      ← c2 .find-settler .ensures,
-      lt-ltb _ _ (c1 .if1 .left),
-      ← (rw (c .before .before .unpack .ensures) at (c .before .is-dirty .ensures)),
+      ← c .before .before .before .before .before .before .before .before .home .ensures,
+      ← c .before .before .before .before .before .before .before .find-settler .ensures,
+      lt-ltb _ _ (c .before .before .before .before .before .if1 .left),
+      ← (rw u at (c .before .is-dirty .ensures)),
       c .if2 .taken,
-      c .before .before .unpack .ensures,
+      u,
     )
 
 settling-entry-requires : tie.Need-settling-entry-requires
 settling-entry-requires c κs = search needs
 
-mul-at : tie.Need-mul-at
-mul-at c = search needs
-
-add-at : tie.Need-add-at
-add-at c = search needs
+place-requires-2 : tie.Need-place-requires-2
+place-requires-2 c κs = search needs
 
 mul-unpack-2 : tie.Need-mul-unpack-2
 mul-unpack-2 c = search needs
@@ -80,21 +64,16 @@ unpack-requires-2 c κs = search needs
 
 returns-3 : tie.Need-returns-3
 unfolding settledIn
-returns-3 c =
-    let c1 = c .before .before .before in
-    let c2 = c1 .before in
-    let c3 = c2 .before in
-    let c4 = c3 .before .before in
-    let c5 = c4 .before .before in
-    let c6 = c5 .before in
+returns-3 c = let u = rw (c .before .before .before .before .before .before .before .before .place .ensures) at (c .before .before .before .before .before .before .unpack .ensures) in
+    let u2 = rw (c .before .before .place2 .ensures) at (c .unpack2 .ensures) in
     rw (
-      ← c6 .home .ensures,
-      ← c5 .find-settler .ensures,
-      lt-ltb _ _ (c4 .if1 .left),
-      ← (rw (c3 .unpack .ensures) at (c2 .is-dirty .ensures)),
-      c1 .if2 .left,
-      ← c .before .before .settling-entry .ensures,
-      c .unpack2 .ensures,
+      ← c .before .before .before .before .before .before .before .before .before .before .before .before .home .ensures,
+      ← c .before .before .before .before .before .before .before .before .before .before .before .find-settler .ensures,
+      lt-ltb _ _ (c .before .before .before .before .before .before .before .before .before .if1 .left),
+      ← (rw u at (c .before .before .before .before .before .is-dirty .ensures)),
+      c .before .before .before .before .if2 .left,
+      ← c .before .before .before .settling-entry .ensures,
+      u2,
     )
 
 pub settled-in-spec : {M : Type 1} → statement M
@@ -106,16 +85,14 @@ settled-in-spec =
     mul-result
     element-copy-out-result
     returns
-    mul-j
-    add-j
+    place-requires
     mul-unpack
     element-copy-out-unpack
     unpack-requires
     is-dirty-requires
     returns-2
     settling-entry-requires
-    mul-at
-    add-at
+    place-requires-2
     mul-unpack-2
     element-copy-out-unpack-2
     unpack-requires-2
