@@ -1,4 +1,4 @@
-// Each instruction where its operands are not refused: 7, then 8. Here a step's word becomes the byte that the caches know it by.
+// Each instruction where its operands are not refused: 7, then 8.
 
 use crate::ends;
 use entry::answer::Answered;
