@@ -1,10 +1,12 @@
 -- "Sound states": one field for each clause, in document 01's order. The test that the code makes of it is in SoundTest.
 use mathlib.Core.Path.{_≡_}
+use mathlib.Core.Bool.{true}
 use mathlib.Core.Logic.{_⊎_, _≢_}
 use Prim.Native.Nat.{ℕ, _%_, _<_, _≤_}
 use lib.ListN.{length, getD}
 use Rattle.entry.specs.declared.Entry.{Entry}
-use Rattle.entry.specs.Numbers.{INVALID, RESERVED, DIRTY, BACKUP, TENTATIVE}
+use Rattle.entry.specs.Numbers.{INVALID, DIRTY, BACKUP, TENTATIVE}
+use Rattle.entry.specs.Entry.{reservedOrDirty}
 use Rattle.entry.specs.Packing.{packedEnd, noEntry}
 use Rattle.rules.specs.declared.Dims.{Dims}
 use Rattle.rules.specs.State.{Caches, place, lineAt, entryAt, wordAt, activeFlag, statusFlag, trueFlag}
@@ -17,10 +19,6 @@ pub record Lengths (s : Caches) : Type 0 where
   pub lines : length (s .lines) ≡ 512
   pub entries : length (s .entries) ≡ 512
   pub flags : length (s .flags) ≡ 16
-
--- "RESERVED or DIRTY"
-abbrev pub Owning : Entry → Type 0
-Owning e = RESERVED ≤ e .state
 
 -- no invalid line or entry
 abbrev pub Held : Entry → Type 0
@@ -72,8 +70,8 @@ pub record Sound (d : Dims) (s : Caches) : Type 0 where
   pub tentative-flags : (p i : ℕ) → p < 8 → i < 64 → entryAt s p i .tag ≡ TENTATIVE →
       (activeFlag (s .flags) p ≡ trueFlag) × (statusFlag (s .flags) p ≡ trueFlag)
   -- "RESERVED or DIRTY anywhere means no other processor has the word"
-  pub exclusive : (p q : ℕ) (e f : Entry) → p < 8 → q < 8 → p ≢ q → HasCopy s p e → HasCopy s q f → Owning e → Held f →
-      f .word ≢ e .word
+  pub exclusive : (p q : ℕ) (e f : Entry) → p < 8 → q < 8 → p ≢ q → HasCopy s p e → HasCopy s q f →
+      reservedOrDirty (e .state) ≡ true → Held f → f .word ≢ e .word
   -- "VALID and RESERVED data equal memory"
   pub clean : (p : ℕ) (e : Entry) → p < 8 → HasCopy s p e → Held e → e .state ≢ DIRTY → e .«data» ≡ wordAt s (e .word)
   -- "a backup's state is not above its tentative entry's (VALID, RESERVED, DIRTY ascending)"

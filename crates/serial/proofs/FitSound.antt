@@ -7,7 +7,7 @@ use native.Mathlib.Decide.{ℕ-discrete}
 use native.Mathlib.Omega.{arith}
 use lib.Dec.{eqb}
 use lib.ListN.{getD}
-use borrow.Author.Tests.{eq-eqb, ne-eqb, eqb-false, lt-ltb, le-leb, not-true}
+use borrow.Author.Tests.{eq-eqb, ne-eqb, eqb-false, lt-ltb, le-leb, leb-true, not-true}
 use Rattle.laws.specs.Choice.{both-true}
 use Rattle.entry.specs.declared.Entry.{Entry}
 use Rattle.entry.specs.Numbers.{INVALID, RESERVED, DIRTY, NORMAL, BACKUP, TENTATIVE}
@@ -17,7 +17,7 @@ use Rattle.rules.specs.State.{Caches, lineAt, entryAt, activePlace, statusPlace
 use Rattle.rules.specs.Own.{home}
 use Rattle.rules.specs.Making.{dimsRefusal}
 use Rattle.entry.specs.Refusals.{accepted}
-use Rattle.rules.specs.Sound.{Sound, Held, Owning, HasCopy, Tentative}
+use Rattle.rules.specs.Sound.{Sound, Held, HasCopy, Tentative}
 use Rattle.theory.specs.View.{LineState, regular, above, dirtyState, has, exclusive, below}
 use Rattle.theory.specs.View
 use Rattle.theory.proofs.OneWord.{below-above}
@@ -209,7 +209,7 @@ module _ {d : Dims} {s : Caches} (F : Fit d s) (C : Coherent (d .processors) (se
       code-below (entryAt s p i .state) (entryAt s p j .state) (omega arith) (omega arith) (f .held) (g .held)
       (subst (λ (x : LineState). below (stateOf (entryAt s p i .state)) x) q (rw (b .3) at (C .order (entryAt s p j .word) p)))
 
-  exclusive-clause : (p q : ℕ) (e f : Entry) → p < 8 → q < 8 → p ≢ q → HasCopy s p e → HasCopy s q f → Owning e → Held f
+  exclusive-clause : (p q : ℕ) (e f : Entry) → p < 8 → q < 8 → p ≢ q → HasCopy s p e → HasCopy s q f → RESERVED ≤ e .state → Held f
       → f .word ≢ e .word
   exclusive-clause p q e f lp lq n ce cf h hf z =
       let a = known p e lp ce (λ y. omega arith) in
@@ -247,7 +247,7 @@ module _ {d : Dims} {s : Caches} (F : Fit d s) (C : Coherent (d .processors) (se
         (back-on p j g t′ (entryAt s p i .word) (sym e));
     backup-needs = backup-needs;
     tentative-flags = tentative-flags;
-    exclusive = exclusive-clause;
+    exclusive = λ p q e f lp lq n ce cf h. exclusive-clause p q e f lp lq n ce cf (leb-true RESERVED (e .state) h);
     clean = λ p e lp c h n. known p e lp c h .shows .checked n;
     backup-below = backup-below;
   }

@@ -5,9 +5,9 @@ use mathlib.Core.Bool.{true, false, true≢false, false≢true}
 use Prim.Native.Nat.{ℕ, _<_}
 use native.Mathlib.Decide.{decLt}
 use native.Mathlib.Omega.{arith}
-use borrow.Author.Tests.{eqb-false, lt-ltb, leb-true}
+use borrow.Author.Tests.{eqb-false, lt-ltb}
 use Rattle.entry.specs.declared.Entry.{Entry}
-use Rattle.entry.specs.Numbers.{RESERVED, DIRTY}
+use Rattle.entry.specs.Numbers.{DIRTY}
 use Rattle.entry.specs.Packing.{InRange, unpack-range}
 use Rattle.rules.specs.declared.Dims.{Dims}
 use Rattle.rules.specs.State.{Caches, lineAt, entryAt, wordAt}
@@ -72,7 +72,7 @@ module _ {d : Dims} {s : Caches} (Z : Sound d s) (values : (w : ℕ) → wordAt 
               let u = sym (above-code (a .copy .state) (copy-range (a .held-by) .state) (a .held)) ∙
               (ap above (a .state) ∙ (sym (exclusive-main k) ∙ h)) in
               Z .exclusive p q (a .copy) (b .copy) (eight p l) (eight q r) (λ z. n (sym z)) (a .held-by) (b .held-by)
-              (leb-true RESERVED (a .copy .state) u) (b .held)
+              u (b .held)
               (b .word ∙ sym (a .word))
 
           one : (k : View.Copy) → seen d s .copy w p ≡ k → exclusive k ≡ true → (k′ : View.Copy) → seen d s .copy w q ≡ k′ → k′ ≡ none

@@ -7,7 +7,7 @@ use native.Mathlib.Omega.{arith}
 use native.Mathlib.Decide.{ℕ-discrete, decLt}
 use lib.Dec.{eqb}
 use lib.ListN.{getD}
-use borrow.Author.Tests.{eq-eqb, ne-eqb}
+use borrow.Author.Tests.{eq-eqb, ne-eqb, leb-true}
 use Rattle.entry.specs.declared.Entry.{Entry}
 use Rattle.entry.specs.Numbers.{INVALID, RESERVED, DIRTY, BACKUP, TENTATIVE}
 use Rattle.entry.specs.Packing.{packedEnd, unpack, noEntry}
@@ -222,7 +222,7 @@ module _ (d : Dims) (s : Caches) (t : Tested d s) where
     backup-needs = λ p i hp hi h g. let r = found p i hp g in
         record { slot = r .slot; inside = r .inside; tag = r .fits .tag; word = r .fits .word };
     tentative-flags = λ p i hp hi g. tentative-up p i g;
-    exclusive = one-processor;
+    exclusive = λ p q e f hp hq n ce cf h. one-processor p q e f hp hq n ce cf (leb-true RESERVED (e .state) h);
     clean = λ p e hp c h. copy-known p e hp c h .clean;
     backup-below = λ p i j hp hi hj. below p i j hp hj;
   }

@@ -7,7 +7,7 @@ use native.Mathlib.Omega.{arith}
 use native.Mathlib.Decide.{ℕ-discrete, decLt}
 use lib.Dec.{eqb}
 use lib.ListN.{getD}
-use borrow.Author.Tests.{eq-eqb, ne-eqb, eqb-true, eqb-false}
+use borrow.Author.Tests.{eq-eqb, ne-eqb, eqb-true, eqb-false, le-leb}
 use Rattle.entry.specs.declared.Entry.{Entry}
 use Rattle.entry.specs.Numbers.{RESERVED, BACKUP, TENTATIVE}
 use Rattle.entry.specs.Packing.{unpack, unpack-zero}
@@ -48,7 +48,7 @@ module _ (d : Dims) (s : Caches) (h : Sound d s) where
     where
       by : Dec (q ≡ p) → q ≡ p
       by (yes z) = z
-      by (no n) = absurd (h .exclusive q p f e hq hp n cf ce o he (sym w))
+      by (no n) = absurd (h .exclusive q p f e hq hp n cf ce (le-leb RESERVED (f .state) o) he (sym w))
 
   owned : (p : ℕ) (e : Entry) → p < 8 → HasCopy s p e → Held e → getD owners (e .word) 0 ≢ 0 → getD owners (e .word) 0 ≡ p + 1
   owned p e hp c held =
