@@ -43,7 +43,8 @@ pub(crate) fn write_answer(
     answer: Answer,
     counts: Counts,
 )
-    requires { ⌜ InColumns (columns (now answers) (now results) (now read) (now rfo) (now write) (now «t_read») (now «t_rfo») (now busy)) i ⌝ }
+    requires { ⌜ InColumns
+        (columns (now answers) (now results) (now read) (now rfo) (now write) (now «t_read») (now «t_rfo») (now busy)) i ⌝ }
     ensures { λ r.
         let c = columnsOf answers results read rfo write «t_read» «t_rfo» busy in
         ⌜ c .exit ≡ written (c .entry) i (answered answer counts) ⌝ }

@@ -20,16 +20,25 @@ run-one-requires : tie.Need-run-one-requires
 run-one-requires c κs = search needs
 
 returns-2 : tie.Need-returns-2
-returns-2 c = let c1 = c .before .before .before .before .before .before .before in
-    refuses-step _ _ _ (sym (c1 .held-ok .ensures) ∙ not-false (c1 .held-ok .result) (c .before .before .before .before .before .before .if1 .left)) _ (c .before .before .before .before .machine-of .ensures) _ _ (c .before .before .run-one .ensures) (c .if2 .taken)
+returns-2 c =
+    let c2 = c .before .before in
+    let c3 = c2 .before .before in
+    let c4 = c3 .before .before in
+    let c1 = c .before .before .before .before .before .before .before in
+    refuses-step _ _ _ (sym (c1 .held-ok .ensures) ∙ not-false (c1 .held-ok .result) (c4 .if1 .left)) _ (c3 .machine-of .ensures) _ _ (c2 .run-one .ensures) (c .if2 .taken)
 
 put-machine-requires : tie.Need-put-machine-requires
 put-machine-requires c κs = search needs
 
 returns-3 : tie.Need-returns-3
-returns-3 c = let c1 = c .before .before .before .before .before .before .before .before .before in
-    tells-step _ _ _ (sym (c1 .held-ok .ensures) ∙ not-false (c1 .held-ok .result) (c .before .before .before .before .before .before .before .before .if1 .left)) _ (c .before .before .before .before .before .before .machine-of .ensures) _ _ (c .before .before .before .before .run-one .ensures)
-    (c .before .before .if2 .left) _ (c .put-machine .ensures) _ refl
+returns-3 c =
+    let c2 = c .before .before in
+    let c3 = c2 .before .before in
+    let c4 = c3 .before .before in
+    let c5 = c4 .before .before in
+    let c1 = c .before .before .before .before .before .before .before .before .before in
+    tells-step _ _ _ (sym (c1 .held-ok .ensures) ∙ not-false (c1 .held-ok .result) (c5 .if1 .left)) _ (c4 .machine-of .ensures) _ _ (c3 .run-one .ensures)
+    (c2 .if2 .left) _ (c .put-machine .ensures) _ refl
 
 pub stirnfeld-step-spec : {M : Type 1} → statement M
 stirnfeld-step-spec =

@@ -18,7 +18,10 @@ returns c = rw (← c .before .sound .ensures, not-true (c .before .sound .resul
 
 returns-2 : tie.Need-returns-2
 unfolding settledOf
-returns-2 c = rw (← c .before .before .before .before .sound .ensures, not-false (c .before .before .before .before .sound .result) (c .before .before .before .if1 .left), le-ltb _ _ (c .if2 .taken))
+returns-2 c =
+    let c1 = c .before .before .before in
+    let c2 = c1 .before in
+    rw (← c2 .sound .ensures, not-false (c2 .sound .result) (c1 .if1 .left), le-ltb _ _ (c .if2 .taken))
 
 narrowed-requires : tie.Need-narrowed-requires
 narrowed-requires c κs = search needs
@@ -27,9 +30,14 @@ settled-in-requires : tie.Need-settled-in-requires
 settled-in-requires c κs = search needs
 
 returns-3 : tie.Need-returns-3
-returns-3 c = let sound = sym (c .before .before .before .before .before .before .before .before .before .before .before .before .before .before .sound .ensures) ∙ not-false (c .before .before .before .before .before .before .before .before .before .before .before .before .before .before .sound .result) (c .before .before .before .before .before .before .before .before .before .before .before .before .before .if1 .left) in
-    settles-word _ sound (c .before .before .before .before .before .before .before .before .before .before .before .before .before .before .before .args .word) _ _ (c .before .before .before .before .before .before .before .before .before .before .if2 .left)
-    (omega (arith, c .before .narrowed .ensures, sound-fit _ _ sound .words, c .before .before .before .before .before .before .before .before .before .before .if2 .left))
+returns-3 c =
+    let c1 = c .before .before .before .before .before .before .before .before .before .before in
+    let c2 = c1 .before .before .before in
+    let c3 = c2 .before in
+    let c4 = c3 .before in
+    let sound = sym (c3 .sound .ensures) ∙ not-false (c3 .sound .result) (c2 .if1 .left) in
+    settles-word _ sound (c4 .args .word) _ _ (c1 .if2 .left)
+    (omega (arith, c .before .narrowed .ensures, sound-fit _ _ sound .words, c1 .if2 .left))
     (c .settled-in .ensures)
 
 pub settled-spec : {M : Type 1} → statement M

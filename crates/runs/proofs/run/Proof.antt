@@ -52,7 +52,10 @@ returns-2 c =
     )
 
 run-sound-requires : tie.Need-run-sound-requires
-run-sound-requires c κs = sym (c .before .before .before .before .before .before .before .before .before .before .before .before .before .before .before .before .before .before .columns-ok .ensures) ∙ not-false (c .before .before .before .before .before .before .before .before .before .before .before .before .before .before .before .before .before .before .columns-ok .result) (c .before .before .before .before .before .before .before .before .before .before .before .before .before .before .before .before .before .if2 .left)
+run-sound-requires c κs =
+    let c1 = c .before .before .before .before .before .before .before .before .before .before .before .before .before .before .before .before .before in
+    let c2 = c1 .before in
+    sym (c2 .columns-ok .ensures) ∙ not-false (c2 .columns-ok .result) (c1 .if2 .left)
 
 same-length-9 : tie.Need-same-length-9
 same-length-9 c = search needs

@@ -35,11 +35,28 @@ put-bytes-requires-2 : tie.Need-put-bytes-requires-2
 put-bytes-requires-2 c κs = search needs
 
 same-length : tie.Need-same-length
-same-length c = c .before .before .put-bytes2 .kept .0 ∙ c .before .before .before .before .before .before .before .put-number3 .kept .0 ∙ c .before .before .before .before .before .before .before .before .before .before .before .before .put-bytes .kept .0 ∙ c .before .before .before .before .before .before .before .before .before .before .before .before .before .before .before .before .before .put-number2 .kept .0 ∙ c .before .before .before .before .before .before .before .before .before .before .before .before .before .before .before .before .before .before .before .before .before .before .put-name .kept .0 ∙ c .before .before .before .before .before .before .before .before .before .before .before .before .before .before .before .before .before .before .before .before .before .before .before .before .before .before .put-number .kept .0
+same-length c =
+    let c1 = c .before .before in
+    let c2 = c1 .before .before .before .before .before in
+    let c3 = c2 .before .before .before .before .before in
+    let c4 = c3 .before .before .before .before .before in
+    let c5 = c4 .before .before .before .before .before in
+    let c6 = c5 .before .before .before .before in
+    c1 .put-bytes2 .kept .0 ∙ c2 .put-number3 .kept .0 ∙ c3 .put-bytes .kept .0 ∙ c4 .put-number2 .kept .0 ∙ c5 .put-name .kept .0 ∙ c6 .put-number .kept .0
 
 returns : tie.Need-returns
-returns c = answer-written _ _ _ _ _ _ _ _ _ _ _ (c .before .before .before .before .before .before .before .before .before .before .before .before .before .before .before .before .before .before .before .before .before .before .before .before .before .before .before .before .before .before .pre) (c .before .before .before .before .before .before .before .before .before .before .before .before .before .before .before .before .before .before .before .before .before .before .before .before .before .before .put-number .ensures) (c .before .before .before .before .before .before .before .before .before .before .before .before .before .before .before .before .before .before .before .before .before .before .put-name .ensures) (c .before .before .before .before .before .before .before .before .before .before .before .before .before .before .before .before .before .before .printed .ensures) (c .before .before .before .before .before .before .before .before .before .before .before .before .before .before .before .before .before .put-number2 .ensures)
-    (c .before .before .before .before .before .before .before .before .before .before .before .before .put-bytes .ensures) (c .before .before .before .before .before .before .before .before .cycles .ensures) (c .before .before .before .before .before .before .before .put-number3 .ensures) (c .before .before .put-bytes2 .ensures)
+returns c =
+    let c1 = c .before .before in
+    let c2 = c1 .before .before .before .before .before in
+    let c3 = c2 .before in
+    let c4 = c3 .before .before .before .before in
+    let c5 = c4 .before .before .before .before .before in
+    let c6 = c5 .before in
+    let c7 = c6 .before .before .before .before in
+    let c8 = c7 .before .before .before .before in
+    let c9 = c8 .before .before .before .before in
+    answer-written _ _ _ _ _ _ _ _ _ _ _ (c9 .pre) (c8 .put-number .ensures) (c7 .put-name .ensures) (c6 .printed .ensures) (c5 .put-number2 .ensures)
+    (c4 .put-bytes .ensures) (c3 .cycles .ensures) (c2 .put-number3 .ensures) (c1 .put-bytes2 .ensures)
 
 pub write-answer-spec : {M : Type 1} → statement M
 write-answer-spec =

@@ -28,8 +28,13 @@ settling-entry-requires c κs = search needs
 
 returns-2 : tie.Need-returns-2
 unfolding settles
-returns-2 c = let u = rw (c .before .before .before .before .before .before .place .ensures) at (c .before .before .before .before .unpack .ensures) in
-    rw (← (rw u at (c .before .before .before .is-dirty .ensures)), c .before .before .if1 .left, ← c .before .settling-entry .ensures)
+returns-2 c =
+    let c1 = c .before .before in
+    let c2 = c1 .before in
+    let c3 = c2 .before in
+    let c4 = c3 .before .before in
+    let u = rw (c4 .place .ensures) at (c3 .unpack .ensures) in
+    rw (← (rw u at (c2 .is-dirty .ensures)), c1 .if1 .left, ← c .before .settling-entry .ensures)
 
 pub does-settle-spec : {M : Type 1} → statement M
 does-settle-spec =

@@ -41,7 +41,8 @@ loop-less c = omega (arith, c .before .loop-test .taken)
 
 loop-again : tie.Need-loop-again Inv-loop μ-loop
 loop-again c =
-    (omega (arith, c .before .loop-test .taken), rw (c .settled-in .ensures) (sym (fold-turn _ _ _ _ (c .before .loop-test .taken)) ∙ c .before .before .loop .inv .1))
+    let c1 = c .before .before in
+    (omega (arith, c .before .loop-test .taken), rw (c .settled-in .ensures) (sym (fold-turn _ _ _ _ (c .before .loop-test .taken)) ∙ c1 .loop .inv .1))
 
 returns : tie.Need-returns Inv-loop μ-loop
 returns c = sym (fold-end _ _ _ _ (c .loop-test .left)) ∙ c .before .loop .inv .1

@@ -18,7 +18,10 @@ element-copy-out-result c = search needs
 
 returns : tie.Need-returns
 unfolding settledIn
-returns c = rw (← c .before .before .before .before .home .ensures, ← c .before .before .before .find-settler .ensures, le-ltb _ _ (c .before .if1 .taken))
+returns c =
+    let c1 = c .before .before .before in
+    let c2 = c1 .before in
+    rw (← c2 .home .ensures, ← c1 .find-settler .ensures, le-ltb _ _ (c .before .if1 .taken))
 
 place-requires : tie.Need-place-requires
 place-requires c κs = search needs
@@ -64,15 +67,25 @@ unpack-requires-2 c κs = search needs
 
 returns-3 : tie.Need-returns-3
 unfolding settledIn
-returns-3 c = let u = rw (c .before .before .before .before .before .before .before .before .place .ensures) at (c .before .before .before .before .before .before .unpack .ensures) in
-    let u2 = rw (c .before .before .place2 .ensures) at (c .unpack2 .ensures) in
+returns-3 c =
+    let c1 = c .before .before in
+    let c2 = c1 .before in
+    let c3 = c2 .before in
+    let c4 = c3 .before in
+    let c5 = c4 .before in
+    let c6 = c5 .before .before in
+    let c7 = c6 .before in
+    let c8 = c7 .before .before in
+    let c9 = c8 .before in
+    let u = rw (c6 .place .ensures) at (c5 .unpack .ensures) in
+    let u2 = rw (c1 .place2 .ensures) at (c .unpack2 .ensures) in
     rw (
-      ← c .before .before .before .before .before .before .before .before .before .before .before .before .home .ensures,
-      ← c .before .before .before .before .before .before .before .before .before .before .before .find-settler .ensures,
-      lt-ltb _ _ (c .before .before .before .before .before .before .before .before .before .if1 .left),
-      ← (rw u at (c .before .before .before .before .before .is-dirty .ensures)),
-      c .before .before .before .before .if2 .left,
-      ← c .before .before .before .settling-entry .ensures,
+      ← c9 .home .ensures,
+      ← c8 .find-settler .ensures,
+      lt-ltb _ _ (c7 .if1 .left),
+      ← (rw u at (c4 .is-dirty .ensures)),
+      c3 .if2 .left,
+      ← c2 .settling-entry .ensures,
       u2,
     )
 

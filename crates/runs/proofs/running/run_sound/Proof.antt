@@ -31,7 +31,9 @@ loop-holds : tie.Need-loop-holds Inv-loop μ-loop
 loop-holds c = (search needs, rw sub-zero, same-refl _)
 
 step-at-requires : tie.Need-step-at-requires Inv-loop μ-loop
-step-at-requires c κs = in-steps _ _ (c .before .before .before .before .before .before .before .before .before .before .before .before .before .before .pre) _ (omega (arith, c .loop-test))
+step-at-requires c κs =
+    let c1 = c .before .before .before .before .before .before .before .before .before .before .before .before .before .before in
+    in-steps _ _ (c1 .pre) _ (omega (arith, c .loop-test))
 
 take-step-requires : tie.Need-take-step-requires Inv-loop μ-loop
 take-step-requires c κs = search needs
@@ -68,28 +70,53 @@ same-length-8 c = c .before .before .before .before .before .before .before .bef
 
 returns : tie.Need-returns Inv-loop μ-loop
 unfolding runSound
-returns c = let x = c .before .before .before .before .before .before .before .before .before .before .before .before .before .before .before .before .before .before .before .before .before .before .before .before .args in
-    halts (x .d) (steps (x .ops .now) (x .cores .now) (x .words .now) (x .values .now)) (c .before .before .before .before .before .before .before .before .before .before .before .loop .i) (length (x .ops .now)) _ _ (c .before .before .before .before .before .before .before .before .before .before .before .loop .inv .1)
-    (omega (arith, c .before .before .before .before .before .before .before .before .before .before .loop-test)) (c .before .before .before .before .before .before .before .before .before .step-at .result) (c .before .before .before .before .before .before .before .before .before .step-at .ensures) (c .before .before .before .before .take-step .result) _ (c .before .before .before .before .take-step .ensures)
-    (sym (c .before .before .is-refusal .ensures) ∙ c .before .if1 .taken) (c .refusal .result) (c .refusal .ensures) _ refl
+returns c =
+    let c1 = c .before .before in
+    let c2 = c1 .before .before in
+    let c3 = c2 .before .before .before .before .before in
+    let c4 = c3 .before in
+    let c5 = c4 .before in
+    let c6 = c5 .before .before .before .before .before .before .before .before .before .before .before .before .before in
+    let x = c6 .args in
+    halts (x .d) (steps (x .ops .now) (x .cores .now) (x .words .now) (x .values .now)) (c5 .loop .i) (length (x .ops .now)) _ _ (c5 .loop .inv .1)
+    (omega (arith, c4 .loop-test)) (c3 .step-at .result) (c3 .step-at .ensures) (c2 .take-step .result) _ (c2 .take-step .ensures)
+    (sym (c1 .is-refusal .ensures) ∙ c .before .if1 .taken) (c .refusal .result) (c .refusal .ensures) _ refl
 
 write-answer-requires : tie.Need-write-answer-requires Inv-loop μ-loop
-write-answer-requires c κs = in-columns _ _ (c .before .before .before .before .before .before .before .before .before .before .before .before .before .before .before .before .before .before .before .before .before .before .before .before .before .before .before .before .before .before .before .pre) _ (omega (arith, c .before .before .before .before .before .before .before .before .before .before .before .before .before .before .before .before .before .loop-test)) _ (c .before .before .before .before .before .before .before .before .before .before .before .before .before .before .before .before .before .before .loop .inv .2)
+write-answer-requires c κs =
+    let c1 = c .before .before .before .before .before .before .before .before .before .before .before .before .before .before .before .before .before in
+    let c2 = c1 .before in
+    let c3 = c2 .before .before .before .before .before .before .before .before .before .before .before .before .before in
+    in-columns _ _ (c3 .pre) _ (omega (arith, c1 .loop-test)) _ (c2 .loop .inv .2)
 
 add-i : tie.Need-add-i Inv-loop μ-loop
-add-i c = omega (arith, c .before .before .before .before .before .before .before .before .before .before .before .before .before .before .before .before .before .before .before .before .before .before .before .before .before .before .before .before .before .before .before .before .before .before .loop-test, c .before .before .before .before .before .before .before .before .before .before .before .before .before .before .before .before .before .before .before .before .before .before .before .before .before .before .before .before .before .before .before .before .before .before .before .before .before .before .before .before .before .before .before .before .before .before .before .before .good)
+add-i c =
+    let c1 = c .before .before .before .before .before .before .before .before .before .before .before .before .before .before .before .before .before .before .before .before .before .before .before .before .before .before .before .before .before .before .before .before .before .before in
+    let c2 = c1 .before .before .before .before .before .before .before .before .before .before .before .before .before .before in
+    omega (arith, c1 .loop-test, c2 .good)
 
 loop-less : tie.Need-loop-less Inv-loop μ-loop
-loop-less c = omega (arith, c .before .before .before .before .before .before .before .before .before .before .before .before .before .before .before .before .before .before .before .before .before .before .before .before .before .before .before .before .before .before .before .before .before .before .loop-test)
+loop-less c =
+    let c1 = c .before .before .before .before .before .before .before .before .before .before .before .before .before .before .before .before .before .before .before .before .before .before .before .before .before .before .before .before .before .before .before .before .before .before in
+    omega (arith, c1 .loop-test)
 
 loop-again : tie.Need-loop-again Inv-loop μ-loop
-loop-again c = let x = c .before .before .before .before .before .before .before .before .before .before .before .before .before .before .before .before .before .before .before .before .before .before .before .before .before .before .before .before .before .before .before .before .before .before .before .before .before .before .before .before .before .before .before .before .before .before .before .before .args in (
-  omega (arith, c .before .before .before .before .before .before .before .before .before .before .before .before .before .before .before .before .before .before .before .before .before .before .before .before .before .before .before .before .before .before .before .before .before .before .loop-test),
-  takes-turn (x .d) (steps (x .ops .now) (x .cores .now) (x .words .now) (x .values .now)) (c .before .before .before .before .before .before .before .before .before .before .before .before .before .before .before .before .before .before .before .before .before .before .before .before .before .before .before .before .before .before .before .before .before .before .before .loop .i) (length (x .ops .now)) _ _ (c .before .before .before .before .before .before .before .before .before .before .before .before .before .before .before .before .before .before .before .before .before .before .before .before .before .before .before .before .before .before .before .before .before .before .before .loop .inv .1)
-      (omega (arith, c .before .before .before .before .before .before .before .before .before .before .before .before .before .before .before .before .before .before .before .before .before .before .before .before .before .before .before .before .before .before .before .before .before .before .loop-test)) (c .before .before .before .before .before .before .before .before .before .before .before .before .before .before .before .before .before .before .before .before .before .before .before .before .before .before .before .before .before .before .before .before .before .step-at .result) (c .before .before .before .before .before .before .before .before .before .before .before .before .before .before .before .before .before .before .before .before .before .before .before .before .before .before .before .before .before .before .before .before .before .step-at .ensures) (c .before .before .before .before .before .before .before .before .before .before .before .before .before .before .before .before .before .before .before .before .before .before .before .before .before .before .before .before .take-step .result) _ (c .before .before .before .before .before .before .before .before .before .before .before .before .before .before .before .before .before .before .before .before .before .before .before .before .before .before .before .before .take-step .ensures)
-      (sym (c .before .before .before .before .before .before .before .before .before .before .before .before .before .before .before .before .before .before .before .before .before .before .before .before .before .before .is-refusal .ensures) ∙ c .before .before .before .before .before .before .before .before .before .before .before .before .before .before .before .before .before .before .before .before .before .before .before .before .before .if1 .left) _ (c .before .before .before .before .before .before .before .before .before .before .before .before .before .before .before .before .write-answer .ensures),
-  written-same _ _ _ (c .before .before .before .before .before .before .before .before .before .before .before .before .before .before .before .before .before .before .before .before .before .before .before .before .before .before .before .before .before .before .before .before .before .before .before .loop .i) (c .before .before .before .before .before .before .before .before .before .before .before .before .before .before .before .before .before .before .before .before .before .before .before .before .before .before .before .before .take-step .result) (c .before .before .before .before .before .before .before .before .before .before .before .before .before .before .before .before .write-answer .ensures) (c .before .before .before .before .before .before .before .before .before .before .before .before .before .before .before .before .before .before .before .before .before .before .before .before .before .before .before .before .before .before .before .before .before .before .before .loop .inv .2),
-)
+loop-again c =
+    let c1 = c .before .before .before .before .before .before .before .before .before .before .before .before .before .before .before .before in
+    let c2 = c1 .before .before .before .before .before .before .before .before .before in
+    let c3 = c2 .before in
+    let c4 = c3 .before .before in
+    let c5 = c4 .before .before .before .before .before in
+    let c6 = c5 .before in
+    let c7 = c6 .before in
+    let c8 = c7 .before .before .before .before .before .before .before .before .before .before .before .before .before in
+    let x = c8 .args in (
+      omega (arith, c6 .loop-test),
+      takes-turn (x .d) (steps (x .ops .now) (x .cores .now) (x .words .now) (x .values .now)) (c7 .loop .i) (length (x .ops .now)) _ _ (c7 .loop .inv .1)
+          (omega (arith, c6 .loop-test)) (c5 .step-at .result) (c5 .step-at .ensures) (c4 .take-step .result) _ (c4 .take-step .ensures)
+          (sym (c3 .is-refusal .ensures) ∙ c2 .if1 .left) _ (c1 .write-answer .ensures),
+      written-same _ _ _ (c7 .loop .i) (c4 .take-step .result) (c1 .write-answer .ensures) (c7 .loop .inv .2),
+    )
 
 same-length-9 : tie.Need-same-length-9 Inv-loop μ-loop
 same-length-9 c = c .before .loop .inv .2 .answers
@@ -117,7 +144,9 @@ same-length-16 c = c .before .loop .inv .2 .busy
 
 returns-2 : tie.Need-returns-2 Inv-loop μ-loop
 unfolding runSound
-returns-2 c = let x = c .before .before .before .before .before .before .before .before .before .before .before .before .before .before .args in
+returns-2 c =
+    let c1 = c .before .before .before .before .before .before .before .before .before .before .before .before .before .before in
+    let x = c1 .args in
     ran-out (x .d) (steps (x .ops .now) (x .cores .now) (x .words .now) (x .values .now)) (c .before .loop .i) (length (x .ops .now)) _ _ (c .before .loop .inv .1)
     (omega (arith, c .loop-test)) (c .before .loop .inv .0)
 
