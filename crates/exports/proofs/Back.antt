@@ -8,14 +8,15 @@ use native.Mathlib.Nat.{add-zero, add-suc, suc-add, zero-add}
 use native.Mathlib.Decide.{decLt}
 use lib.ListN.{length, getD, set, length-set, length-replicate, getD-replicate}
 use lib.Seq.{sets, length-sets, ext-getD, getD-set-same, getD-set-other}
+use borrow.Author.Tests.{eq-eqb}
 use Rattle.laws.specs.Choice.{both-true}
 use Rattle.rules.specs.declared.Machine.{Machine}
-use Rattle.rules.specs.State.{cachesOf, trueFlag}
+use Rattle.rules.specs.State.{Caches, caches, cachesOf, machineOf, trueFlag}
 use Rattle.rules.specs.Sound.{Lengths}
 use Rattle.exports.specs.Array.{flagsFrom, flagsEnd, memoryFrom, linesFrom, entriesFrom, entriesEnd, stateEnd}
-use Rattle.exports.specs.Array.{part, machineIn, blank, arrayOf, noneAbove, mostValue, heldOk}
-use Rattle.exports.proofs.Copied.{part-length, part-at}
-use Rattle.exports.proofs.Tested.{none-above-at, none-above-of, held-parts}
+use Rattle.exports.specs.Array.{part, dimsIn, machineIn, withParts, blank, arrayOf, noneAbove, mostValue, heldOk}
+use Rattle.exports.proofs.Copied.{part-length, part-at, part-whole}
+use Rattle.exports.proofs.Tested.{none-above-at, none-above-of, held}
 
 -- a place before what is written, after it, and in it
 pub sets-before : (s l : List ℕ) (at k : ℕ) → k < at → getD (sets s at l) k 0 ≡ getD s k 0
@@ -51,6 +52,89 @@ part-before s l from n at h =
     let k : i < n = omega (arith, part-length from n (sets s at l)) in
     part-at from n (sets s at l) i k ∙ sets-before s l at (from + i) (omega arith) ∙ sym (part-at from n s i k))
 
+-- a place of a part in which two arrays agree
+part-same-at : (a b : List ℕ) (from at n i : ℕ) → part from n a ≡ part at n b → i < n → getD a (from + i) 0 ≡ getD b (at + i) 0
+part-same-at a b from at n i h l = sym (part-at from n a i l) ∙ ap (λ (p : List ℕ). getD p i 0) h ∙ part-at at n b i l
+
+part-same : (a b : List ℕ) (from n k : ℕ) → part from n a ≡ part from n b → from ≤ k → k < from + n → getD a k 0 ≡ getD b k 0
+part-same a b from n k h l t =
+    let e : from + (k - from) ≡ k = omega arith in
+    rw (← e) (part-same-at a b from from n (k - from) h (omega arith))
+
+-- a machine's parts put into any array, each over those before it
+module _ (s : List ℕ) (long : length s ≡ stateEnd) (c : Caches) where
+  abbrev flagged : List ℕ
+  flagged = sets s flagsFrom (part 0 16 (c .flags))
+
+  abbrev remembering : List ℕ
+  remembering = sets flagged memoryFrom (part 0 256 (c .memory))
+
+  abbrev lined : List ℕ
+  lined = sets remembering linesFrom (part 0 512 (c .lines))
+
+  flagged-length : length flagged ≡ stateEnd
+  flagged-length = length-sets s flagsFrom (part 0 16 (c .flags)) ∙ long
+
+  remembering-length : length remembering ≡ stateEnd
+  remembering-length = length-sets flagged memoryFrom (part 0 256 (c .memory)) ∙ flagged-length
+
+  lined-length : length lined ≡ stateEnd
+  lined-length = length-sets remembering linesFrom (part 0 512 (c .lines)) ∙ remembering-length
+
+  parts-length : length (withParts s c) ≡ stateEnd
+  unfolding withParts
+  parts-length = length-sets lined entriesFrom (part 0 512 (c .entries)) ∙ lined-length
+
+  entries-put : part entriesFrom 512 (withParts s c) ≡ part 0 512 (c .entries)
+  unfolding withParts
+  entries-put = part-in lined (part 0 512 (c .entries)) entriesFrom 512 (part-length 0 512 (c .entries)) (omega (arith, lined-length))
+
+  lines-put : part linesFrom 512 (withParts s c) ≡ part 0 512 (c .lines)
+  unfolding withParts
+  lines-put =
+      part-before lined (part 0 512 (c .entries)) linesFrom 512 entriesFrom (omega arith) ∙
+      part-in remembering (part 0 512 (c .lines)) linesFrom 512 (part-length 0 512 (c .lines)) (omega (arith, remembering-length))
+
+  memory-put : part memoryFrom 256 (withParts s c) ≡ part 0 256 (c .memory)
+  unfolding withParts
+  memory-put =
+      part-before lined (part 0 512 (c .entries)) memoryFrom 256 entriesFrom (omega arith) ∙
+      part-before remembering (part 0 512 (c .lines)) memoryFrom 256 linesFrom (omega arith) ∙
+      part-in flagged (part 0 256 (c .memory)) memoryFrom 256 (part-length 0 256 (c .memory)) (omega (arith, flagged-length))
+
+  flags-put : part flagsFrom 16 (withParts s c) ≡ part 0 16 (c .flags)
+  unfolding withParts
+  flags-put =
+      part-before lined (part 0 512 (c .entries)) flagsFrom 16 entriesFrom (omega arith) ∙
+      part-before remembering (part 0 512 (c .lines)) flagsFrom 16 linesFrom (omega arith) ∙
+      part-before flagged (part 0 256 (c .memory)) flagsFrom 16 memoryFrom (omega arith) ∙
+      part-in s (part 0 16 (c .flags)) flagsFrom 16 (part-length 0 16 (c .flags)) (omega (arith, long))
+
+  -- what stands before the flags, between them and memory, and past the entries, stays
+  before-flags : (k : ℕ) → k < flagsFrom → getD (withParts s c) k 0 ≡ getD s k 0
+  unfolding withParts
+  before-flags k l =
+      sets-before lined (part 0 512 (c .entries)) entriesFrom k (omega arith) ∙
+      sets-before remembering (part 0 512 (c .lines)) linesFrom k (omega arith) ∙
+      sets-before flagged (part 0 256 (c .memory)) memoryFrom k (omega arith) ∙
+      sets-before s (part 0 16 (c .flags)) flagsFrom k l
+
+  before-memory : (k : ℕ) → flagsEnd ≤ k → k < memoryFrom → getD (withParts s c) k 0 ≡ getD s k 0
+  unfolding withParts
+  before-memory k a b =
+      sets-before lined (part 0 512 (c .entries)) entriesFrom k (omega arith) ∙
+      sets-before remembering (part 0 512 (c .lines)) linesFrom k (omega arith) ∙
+      sets-before flagged (part 0 256 (c .memory)) memoryFrom k b ∙
+      sets-after s (part 0 16 (c .flags)) flagsFrom k (omega (arith, part-length 0 16 (c .flags)))
+
+  past-entries : (k : ℕ) → entriesEnd ≤ k → getD (withParts s c) k 0 ≡ getD s k 0
+  unfolding withParts
+  past-entries k a =
+      sets-after lined (part 0 512 (c .entries)) entriesFrom k (omega (arith, part-length 0 512 (c .entries))) ∙
+      sets-after remembering (part 0 512 (c .lines)) linesFrom k (omega (arith, part-length 0 512 (c .lines))) ∙
+      sets-after flagged (part 0 256 (c .memory)) memoryFrom k (omega (arith, part-length 0 256 (c .memory))) ∙
+      sets-after s (part 0 16 (c .flags)) flagsFrom k (omega (arith, part-length 0 16 (c .flags)))
+
 blank-length : length blank ≡ stateEnd
 unfolding blank
 blank-length = length-replicate {A = ℕ} stateEnd 0
@@ -59,148 +143,127 @@ blank-at : (k : ℕ) → k < stateEnd → getD blank k 0 ≡ 0
 unfolding blank
 blank-at k h = getD-replicate {A = ℕ} stateEnd k 0 0 h
 
-module _ (m : Machine) (h : Lengths (cachesOf m)) where
-  -- the array as its parts are written, each over those before it
+-- the array that holds a machine
+module _ (m : Machine) where
   abbrev sizes : List ℕ
   sizes = m .dims .processors ∷ m .dims .words ∷ m .dims .lines ∷ m .dims .entries ∷ []
 
   abbrev sized : List ℕ
   sized = sets blank 0 sizes
 
-  abbrev flagged : List ℕ
-  flagged = sets sized flagsFrom (m .flags)
-
-  abbrev remembering : List ℕ
-  remembering = sets flagged memoryFrom (m .memory)
-
-  abbrev lined : List ℕ
-  lined = sets remembering linesFrom (m .lines)
-
-  abbrev whole : List ℕ
-  whole = sets lined entriesFrom (m .entries)
-
   sized-length : length sized ≡ stateEnd
   sized-length = length-sets blank 0 sizes ∙ blank-length
 
-  flagged-length : length flagged ≡ stateEnd
-  flagged-length = length-sets sized flagsFrom (m .flags) ∙ sized-length
-
-  remembering-length : length remembering ≡ stateEnd
-  remembering-length = length-sets flagged memoryFrom (m .memory) ∙ flagged-length
-
-  lined-length : length lined ≡ stateEnd
-  lined-length = length-sets remembering linesFrom (m .lines) ∙ remembering-length
+  sized-zero : (k : ℕ) → 4 ≤ k → k < stateEnd → getD sized k 0 ≡ 0
+  sized-zero k a b = sets-after blank sizes 0 k a ∙ blank-at k b
 
   pub array-length : length (arrayOf m) ≡ stateEnd
   unfolding arrayOf
-  array-length = length-sets lined entriesFrom (m .entries) ∙ lined-length
+  array-length = parts-length sized sized-length (cachesOf m)
 
-  -- what stands before the lines, before memory, and before the flags
-  before-lines : (k : ℕ) → k < linesFrom → getD whole k 0 ≡ getD remembering k 0
-  before-lines k l =
-      sets-before lined (m .entries) entriesFrom k (omega arith) ∙ sets-before remembering (m .lines) linesFrom k l
-
-  before-memory : (k : ℕ) → k < memoryFrom → getD whole k 0 ≡ getD flagged k 0
-  before-memory k l = before-lines k (omega arith) ∙ sets-before flagged (m .memory) memoryFrom k l
-
-  before-flags : (k : ℕ) → k < flagsFrom → getD whole k 0 ≡ getD sized k 0
-  before-flags k l = before-memory k (omega arith) ∙ sets-before sized (m .flags) flagsFrom k l
-
-  size-at : (k : ℕ) → k < 4 → getD whole k 0 ≡ getD sizes k 0
+  size-at : (k : ℕ) → k < 4 → getD (arrayOf m) k 0 ≡ getD sizes k 0
+  unfolding arrayOf
   size-at k l =
-      before-flags k (omega arith) ∙
+      before-flags sized sized-length (cachesOf m) k (omega arith) ∙
       ap (λ (j : ℕ). getD sized j 0) (sym (zero-add k)) ∙
       sets-in blank sizes 0 k l (omega (arith, blank-length))
 
-  entries-back : part entriesFrom 512 whole ≡ m .entries
-  entries-back = part-in lined (m .entries) entriesFrom 512 (h .entries) (omega (arith, lined-length))
+  entries-back : part entriesFrom 512 (arrayOf m) ≡ part 0 512 (m .entries)
+  unfolding arrayOf
+  entries-back = entries-put sized sized-length (cachesOf m)
 
-  lines-back : part linesFrom 512 whole ≡ m .lines
-  lines-back =
-      part-before lined (m .entries) linesFrom 512 entriesFrom (omega arith) ∙
-      part-in remembering (m .lines) linesFrom 512 (h .lines) (omega (arith, remembering-length))
+  lines-back : part linesFrom 512 (arrayOf m) ≡ part 0 512 (m .lines)
+  unfolding arrayOf
+  lines-back = lines-put sized sized-length (cachesOf m)
 
-  memory-back : part memoryFrom 256 whole ≡ m .memory
-  memory-back =
-      part-before lined (m .entries) memoryFrom 256 entriesFrom (omega arith) ∙
-      part-before remembering (m .lines) memoryFrom 256 linesFrom (omega arith) ∙
-      part-in flagged (m .memory) memoryFrom 256 (h .memory) (omega (arith, flagged-length))
+  memory-back : part memoryFrom 256 (arrayOf m) ≡ part 0 256 (m .memory)
+  unfolding arrayOf
+  memory-back = memory-put sized sized-length (cachesOf m)
 
-  flags-back : part flagsFrom 16 whole ≡ m .flags
-  flags-back =
-      part-before lined (m .entries) flagsFrom 16 entriesFrom (omega arith) ∙
-      part-before remembering (m .lines) flagsFrom 16 linesFrom (omega arith) ∙
-      part-before flagged (m .memory) flagsFrom 16 memoryFrom (omega arith) ∙
-      part-in sized (m .flags) flagsFrom 16 (h .flags) (omega (arith, sized-length))
+  flags-back : part flagsFrom 16 (arrayOf m) ≡ part 0 16 (m .flags)
+  unfolding arrayOf
+  flags-back = flags-put sized sized-length (cachesOf m)
 
-  -- the array that holds a machine holds it
-  pub machine-back : machineIn (arrayOf m) ≡ m
-  unfolding machineIn arrayOf
-  machine-back =
+  -- a place between the parts holds 0
+  between-sizes : (k : ℕ) → 4 ≤ k → k < flagsFrom → getD (arrayOf m) k 0 ≡ 0
+  unfolding arrayOf
+  between-sizes k a b = before-flags sized sized-length (cachesOf m) k b ∙ sized-zero k a (omega arith)
+
+  between-flags : (k : ℕ) → flagsEnd ≤ k → k < memoryFrom → getD (arrayOf m) k 0 ≡ 0
+  unfolding arrayOf
+  between-flags k a b = before-memory sized sized-length (cachesOf m) k a b ∙ sized-zero k (omega arith) (omega arith)
+
+  to-the-end : (k : ℕ) → entriesEnd ≤ k → k < stateEnd → getD (arrayOf m) k 0 ≡ 0
+  unfolding arrayOf
+  to-the-end k a b = past-entries sized sized-length (cachesOf m) k a ∙ sized-zero k (omega arith) b
+
+  -- holds it, where its parts have their lengths
+  pub machine-back : Lengths (cachesOf m) → machineIn (arrayOf m) ≡ m
+  unfolding machineIn
+  machine-back h =
       rw (
         size-at 0 (omega arith),
         size-at 1 (omega arith),
         size-at 2 (omega arith),
         size-at 3 (omega arith),
-        memory-back,
-        lines-back,
-        entries-back,
-        flags-back,
+        memory-back ∙ part-whole 256 (m .memory) (h .memory),
+        lines-back ∙ part-whole 512 (m .lines) (h .lines),
+        entries-back ∙ part-whole 512 (m .entries) (h .entries),
+        flags-back ∙ part-whole 16 (m .flags) (h .flags),
       )
 
-  -- a place between the parts holds 0
-  between-sizes : (k : ℕ) → 4 ≤ k → k < flagsFrom → getD whole k 0 ≡ 0
-  between-sizes k a b = before-flags k b ∙ sets-after blank sizes 0 k (omega arith) ∙ blank-at k (omega arith)
+  flag-back : (i : ℕ) → i < 16 → getD (arrayOf m) (flagsFrom + i) 0 ≡ getD (m .flags) i 0
+  flag-back i l = part-same-at (arrayOf m) (m .flags) flagsFrom 0 16 i flags-back l ∙ ap (λ (j : ℕ). getD (m .flags) j 0) (zero-add i)
 
-  between-flags : (k : ℕ) → flagsEnd ≤ k → k < memoryFrom → getD whole k 0 ≡ 0
-  between-flags k a b =
-      before-memory k b ∙
-      sets-after sized (m .flags) flagsFrom k (omega (arith, h .flags)) ∙
-      sets-after blank sizes 0 k (omega arith) ∙
-      blank-at k (omega arith)
-
-  past-entries : (k : ℕ) → entriesEnd ≤ k → k < stateEnd → getD whole k 0 ≡ 0
-  past-entries k a b =
-      sets-after lined (m .entries) entriesFrom k (omega (arith, h .entries)) ∙
-      sets-after remembering (m .lines) linesFrom k (omega (arith, h .lines)) ∙
-      sets-after flagged (m .memory) memoryFrom k (omega (arith, h .memory)) ∙
-      sets-after sized (m .flags) flagsFrom k (omega (arith, h .flags)) ∙
-      sets-after blank sizes 0 k (omega arith) ∙
-      blank-at k b
-
-  flag-back : (i : ℕ) → i < 16 → getD whole (flagsFrom + i) 0 ≡ getD (m .flags) i 0
-  flag-back i l = sym (part-at flagsFrom 16 whole i l) ∙ ap (λ (f : List ℕ). getD f i 0) flags-back
-
-  word-back : (i : ℕ) → i < 256 → getD whole (memoryFrom + i) 0 ≡ getD (m .memory) i 0
-  word-back i l = sym (part-at memoryFrom 256 whole i l) ∙ ap (λ (f : List ℕ). getD f i 0) memory-back
+  word-back : (i : ℕ) → i < 256 → getD (arrayOf m) (memoryFrom + i) 0 ≡ getD (m .memory) i 0
+  word-back i l = part-same-at (arrayOf m) (m .memory) memoryFrom 0 256 i memory-back l ∙ ap (λ (j : ℕ). getD (m .memory) j 0) (zero-add i)
 
   -- and passes the test, where its flags and its memory are in range
   pub held-back : ((i : ℕ) → i < 16 → getD (m .flags) i 0 ≤ trueFlag) → ((i : ℕ) → i < 256 → getD (m .memory) i 0 ≤ mostValue) →
       heldOk (arrayOf m) ≡ true
-  unfolding heldOk arrayOf
+  unfolding heldOk
   held-back f w =
-      both-true _ _ (none-above-of whole 0 4 flagsFrom (omega arith) (λ k a b. omega (arith, between-sizes k a b)))
-      (both-true _ _ (none-above-of whole trueFlag flagsFrom flagsEnd (omega arith) flags-in)
-      (both-true _ _ (none-above-of whole 0 flagsEnd memoryFrom (omega arith) (λ k a b. omega (arith, between-flags k a b)))
-      (both-true _ _ (none-above-of whole mostValue memoryFrom linesFrom (omega arith) memory-in)
-      (none-above-of whole 0 entriesEnd stateEnd (omega arith) (λ k a b. omega (arith, past-entries k a b))))))
+      both-true _ _ (eq-eqb (length (arrayOf m)) stateEnd array-length)
+      (both-true _ _ (none-above-of (arrayOf m) 0 4 flagsFrom (omega arith) (λ k l r. omega (arith, between-sizes k l r)))
+      (both-true _ _ (none-above-of (arrayOf m) trueFlag flagsFrom flagsEnd (omega arith) flags-in)
+      (both-true _ _ (none-above-of (arrayOf m) 0 flagsEnd memoryFrom (omega arith) (λ k l r. omega (arith, between-flags k l r)))
+      (both-true _ _ (none-above-of (arrayOf m) mostValue memoryFrom linesFrom (omega arith) memory-in)
+      (none-above-of (arrayOf m) 0 entriesEnd stateEnd (omega arith) (λ k l r. omega (arith, to-the-end k l r)))))))
     where
-      flags-in : (k : ℕ) → flagsFrom ≤ k → k < flagsEnd → getD whole k 0 ≤ trueFlag
-      flags-in k a b =
+      flags-in : (k : ℕ) → flagsFrom ≤ k → k < flagsEnd → getD (arrayOf m) k 0 ≤ trueFlag
+      flags-in k l r =
           let e : flagsFrom + (k - flagsFrom) ≡ k = omega arith in
           rw (← e) (omega (arith, flag-back (k - flagsFrom) (omega arith), f (k - flagsFrom) (omega arith)))
 
-      memory-in : (k : ℕ) → memoryFrom ≤ k → k < linesFrom → getD whole k 0 ≤ mostValue
-      memory-in k a b =
+      memory-in : (k : ℕ) → memoryFrom ≤ k → k < linesFrom → getD (arrayOf m) k 0 ≤ mostValue
+      memory-in k l r =
           let e : memoryFrom + (k - memoryFrom) ≡ k = omega arith in
           rw (← e) (omega (arith, word-back (k - memoryFrom) (omega arith), w (k - memoryFrom) (omega arith)))
 
--- a place of a part in which two arrays agree
-part-same : (a b : List ℕ) (from n k : ℕ) → part from n a ≡ part from n b → from ≤ k → k < from + n → getD a k 0 ≡ getD b k 0
-part-same a b from n k h l t =
-    let e : from + (k - from) ≡ k = omega arith in
-    let i : k - from < n = omega arith in
-    rw (← e) (sym (part-at from n a (k - from) i) ∙ ap (λ (p : List ℕ). getD p (k - from) 0) h ∙ part-at from n b (k - from) i)
+-- two arrays that agree between the parts and in each part are one
+module _ (a b : List ℕ) (left : length a ≡ stateEnd) (right : length b ≡ stateEnd)
+    (first : (k : ℕ) → k < flagsFrom → getD a k 0 ≡ getD b k 0)
+    (between : (k : ℕ) → flagsEnd ≤ k → k < memoryFrom → getD a k 0 ≡ getD b k 0)
+    (last : (k : ℕ) → entriesEnd ≤ k → k < stateEnd → getD a k 0 ≡ getD b k 0)
+    (flags : part flagsFrom 16 a ≡ part flagsFrom 16 b)
+    (memory : part memoryFrom 256 a ≡ part memoryFrom 256 b)
+    (lines : part linesFrom 512 a ≡ part linesFrom 512 b)
+    (entries : part entriesFrom 512 a ≡ part entriesFrom 512 b) where
+  at-place : (k : ℕ) → k < stateEnd → getD a k 0 ≡ getD b k 0
+  at-place k l = by (decLt k flagsFrom) (decLt k flagsEnd) (decLt k memoryFrom) (decLt k linesFrom) (decLt k entriesFrom) (decLt k entriesEnd)
+    where
+      by : Dec (k < flagsFrom) → Dec (k < flagsEnd) → Dec (k < memoryFrom) → Dec (k < linesFrom) → Dec (k < entriesFrom) → Dec (k < entriesEnd)
+          → getD a k 0 ≡ getD b k 0
+      by (yes c) d e f g h = first k c
+      by (no c) (yes d) e f g h = part-same a b flagsFrom 16 k flags (omega arith) (omega arith)
+      by (no c) (no d) (yes e) f g h = between k (omega arith) e
+      by (no c) (no d) (no e) (yes f) g h = part-same a b memoryFrom 256 k memory (omega arith) (omega arith)
+      by (no c) (no d) (no e) (no f) (yes g) h = part-same a b linesFrom 512 k lines (omega arith) (omega arith)
+      by (no c) (no d) (no e) (no f) (no g) (yes h) = part-same a b entriesFrom 512 k entries (omega arith) (omega arith)
+      by (no c) (no d) (no e) (no f) (no g) (no h) = last k (omega arith) l
+
+  one-array : a ≡ b
+  one-array = ext-getD 0 a b (left ∙ sym right) (λ k l. at-place k (omega (arith, left)))
 
 first-four : (s : List ℕ) (k : ℕ) → k < 4 → getD (getD s 0 0 ∷ getD s 1 0 ∷ getD s 2 0 ∷ getD s 3 0 ∷ []) k 0 ≡ getD s k 0
 first-four s zero h = refl
@@ -209,47 +272,59 @@ first-four s (suc (suc zero)) h = refl
 first-four s (suc (suc (suc zero))) h = refl
 first-four s (suc (suc (suc (suc k)))) h = absurd (omega arith)
 
--- an array that passes the test is the one that holds its machine
-module _ (s : List ℕ) (long : length s ≡ stateEnd) (ok : heldOk s ≡ true) where
-  in-lengths : Lengths (cachesOf (machineIn s))
-  unfolding machineIn
-  in-lengths = record {
-    memory = part-length memoryFrom 256 s;
-    lines = part-length linesFrom 512 s;
-    entries = part-length entriesFrom 512 s;
-    flags = part-length flagsFrom 16 s;
-  }
+-- an array that passes the test
+module _ (s : List ℕ) (ok : heldOk s ≡ true) where
+  long : length s ≡ stateEnd
+  long = held s ok .long
 
-  same-at : (k : ℕ) → k < stateEnd → getD (arrayOf (machineIn s)) k 0 ≡ getD s k 0
-  unfolding machineIn arrayOf
-  same-at k b =
-      by (decLt k 4) (decLt k flagsFrom) (decLt k flagsEnd) (decLt k memoryFrom) (decLt k linesFrom) (decLt k entriesFrom) (decLt k entriesEnd)
-    where
-      m : Machine
-      m = machineIn s
+  -- and one that holds a machine of its dimensions agree between the parts
+  module _ (c : Caches) where
+    abbrev m : Machine
+    m = machineOf (dimsIn s) c
 
-      zero-at : (from to : ℕ) → noneAbove 0 from to s ≡ true → from ≤ k → k < to → 0 ≡ getD s k 0
-      zero-at from to t l r = omega (arith, none-above-at s 0 from to (omega arith) t k l r)
+    zero-at : (from to k : ℕ) → noneAbove 0 from to s ≡ true → from ≤ k → k < to → getD s k 0 ≡ 0
+    zero-at from to k t l r = omega (arith, none-above-at s 0 from to (omega arith) t k l r)
 
-      by : Dec (k < 4) → Dec (k < flagsFrom) → Dec (k < flagsEnd) → Dec (k < memoryFrom) → Dec (k < linesFrom) → Dec (k < entriesFrom) →
-          Dec (k < entriesEnd) → getD (arrayOf m) k 0 ≡ getD s k 0
-      by (yes a) c d e f g h = size-at m in-lengths k a ∙ first-four s k a
-      by (no a) (yes c) d e f g h =
-          between-sizes m in-lengths k (omega arith) c ∙ zero-at 4 flagsFrom (held-parts s ok .0) (omega arith) c
-      by (no a) (no c) (yes d) e f g h =
-          part-same (arrayOf m) s flagsFrom 16 k (flags-back m in-lengths) (omega arith) (omega arith)
-      by (no a) (no c) (no d) (yes e) f g h =
-          between-flags m in-lengths k (omega arith) e ∙ zero-at flagsEnd memoryFrom (held-parts s ok .2) (omega arith) e
-      by (no a) (no c) (no d) (no e) (yes f) g h =
-          part-same (arrayOf m) s memoryFrom 256 k (memory-back m in-lengths) (omega arith) (omega arith)
-      by (no a) (no c) (no d) (no e) (no f) (yes g) h =
-          part-same (arrayOf m) s linesFrom 512 k (lines-back m in-lengths) (omega arith) (omega arith)
-      by (no a) (no c) (no d) (no e) (no f) (no g) (yes h) =
-          part-same (arrayOf m) s entriesFrom 512 k (entries-back m in-lengths) (omega arith) (omega arith)
-      by (no a) (no c) (no d) (no e) (no f) (no g) (no h) =
-          past-entries m in-lengths k (omega arith) b ∙ zero-at entriesEnd stateEnd (held-parts s ok .4) (omega arith) b
+    same-first : (k : ℕ) → k < flagsFrom → getD (arrayOf m) k 0 ≡ getD s k 0
+    same-first k l = by (decLt k 4)
+      where
+        by : Dec (k < 4) → getD (arrayOf m) k 0 ≡ getD s k 0
+        by (yes a) = size-at m k a ∙ first-four s k a
+        by (no a) = between-sizes m k (omega arith) l ∙ sym (zero-at 4 flagsFrom k (held s ok .first) (omega arith) l)
 
+    same-between : (k : ℕ) → flagsEnd ≤ k → k < memoryFrom → getD (arrayOf m) k 0 ≡ getD s k 0
+    same-between k a b = between-flags m k a b ∙ sym (zero-at flagsEnd memoryFrom k (held s ok .between) a b)
+
+    same-last : (k : ℕ) → entriesEnd ≤ k → k < stateEnd → getD (arrayOf m) k 0 ≡ getD s k 0
+    same-last k a b = to-the-end m k a b ∙ sym (zero-at entriesEnd stateEnd k (held s ok .last) a b)
+
+    -- so it becomes that array where the machine's parts alone are put into it
+    pub parts-back : withParts s c ≡ arrayOf m
+    parts-back =
+        one-array (withParts s c) (arrayOf m) (parts-length s long c) (array-length m)
+        (λ k l. before-flags s long c k l ∙ sym (same-first k l))
+        (λ k a b. before-memory s long c k a b ∙ sym (same-between k a b))
+        (λ k a b. past-entries s long c k a ∙ sym (same-last k a b))
+        (flags-put s long c ∙ sym (flags-back m))
+        (memory-put s long c ∙ sym (memory-back m))
+        (lines-put s long c ∙ sym (lines-back m))
+        (entries-put s long c ∙ sym (entries-back m))
+
+  abbrev own : Machine
+  own = machineOf (dimsIn s) (caches (part memoryFrom 256 s) (part linesFrom 512 s) (part entriesFrom 512 s) (part flagsFrom 16 s))
+
+  again : (from n : ℕ) → part 0 n (part from n s) ≡ part from n s
+  again from n = part-whole n (part from n s) (part-length from n s)
+
+  -- and it is the one that holds its own machine
   pub array-back : arrayOf (machineIn s) ≡ s
+  unfolding machineIn
   array-back =
-      ext-getD 0 (arrayOf (machineIn s)) s (array-length (machineIn s) in-lengths ∙ sym long)
-      (λ k b. same-at k (omega (arith, array-length (machineIn s) in-lengths)))
+      one-array (arrayOf own) s (array-length own) long
+      (same-first (cachesOf own))
+      (same-between (cachesOf own))
+      (same-last (cachesOf own))
+      (flags-back own ∙ again flagsFrom 16)
+      (memory-back own ∙ again memoryFrom 256)
+      (lines-back own ∙ again linesFrom 512)
+      (entries-back own ∙ again entriesFrom 512)

@@ -4,9 +4,9 @@ use mathlib.Core.List.{List, [], _∷_, _++_}
 use Prim.Native.Nat.{ℕ, zero, suc, _+_, _<_, _≤_}
 use native.Mathlib.Omega.{arith}
 use native.Mathlib.Numerals.{add-one}
-use native.Mathlib.Nat.{add-zero, add-suc, suc-add}
+use native.Mathlib.Nat.{add-zero, add-suc, suc-add, zero-add}
 use lib.ListN.{length, getD, set, take}
-use lib.Seq.{take-all, take-suc, take-suc-set, length-take-le, sets}
+use lib.Seq.{take-all, take-suc, take-suc-set, length-take-le, sets, ext-getD}
 use Rattle.exports.specs.Array.{part}
 
 pub part-length : (from n : ℕ) (s : List ℕ) → length (part from n s) ≡ n
@@ -41,13 +41,23 @@ sets-last s (y ∷ l) from x =
     sets-last (set s from y) l (suc from) x ∙
     ap (λ (k : ℕ). set (sets (set s from y) (suc from) l) k x) (suc-add from (length l) ∙ sym (add-suc from (length l)))
 
--- l is written over s from a place on; now is what s has become
-module _ (s l now : List ℕ) (from i : ℕ) (e : now ≡ sets s from (take i l)) where
-  pub put-turn : i < length l → set now (from + i) (getD l i 0) ≡ sets s from (take (i + 1) l)
-  put-turn t =
-      let n = length-take-le i l (omega arith) in
-      rw (add-one, e, take-suc l i 0 t)
-      (ap (λ (k : ℕ). set (sets s from (take i l)) (from + k) (getD l i 0)) (sym n) ∙ sym (sets-last s (take i l) from (getD l i 0)))
+-- the first n numbers of l are written over s from a place on; now is what s has become
+module _ (s l now : List ℕ) (from n i : ℕ) (e : now ≡ sets s from (take i (part 0 n l))) where
+  abbrev p : List ℕ
+  p = part 0 n l
 
-  pub put-end : length l ≤ i → now ≡ sets s from l
-  put-end t = e ∙ ap (λ (k : List ℕ). sets s from k) (take-all i l t)
+  pub put-turn : i < n → set now (from + i) (getD l i 0) ≡ sets s from (take (i + 1) (part 0 n l))
+  put-turn t =
+      let k = length-take-le i p (omega (arith, part-length 0 n l)) in
+      let v = part-at 0 n l i t ∙ ap (λ (j : ℕ). getD l j 0) (zero-add i) in
+      rw (add-one, e, take-suc p i 0 (omega (arith, part-length 0 n l)), v)
+      (ap (λ (j : ℕ). set (sets s from (take i p)) (from + j) (getD l i 0)) (sym k) ∙ sym (sets-last s (take i p) from (getD l i 0)))
+
+  pub put-end : n ≤ i → now ≡ sets s from (part 0 n l)
+  put-end t = e ∙ ap (λ (k : List ℕ). sets s from k) (take-all i p (omega (arith, part-length 0 n l)))
+
+-- all numbers of a list
+pub part-whole : (n : ℕ) (l : List ℕ) → length l ≡ n → part 0 n l ≡ l
+part-whole n l h =
+    ext-getD 0 (part 0 n l) l (part-length 0 n l ∙ sym h)
+    (λ i b. part-at 0 n l i (omega (arith, part-length 0 n l)) ∙ ap (λ (j : ℕ). getD l j 0) (zero-add i))

@@ -1,26 +1,45 @@
--- A run of one step is that step.
+-- A run of one step is that step: on a machine, and on an array that holds one.
 use mathlib.Core.Path.{_≡_, refl, sym, _∙_, ap}
 use mathlib.Core.Bool.{Bool, true, false, not}
-use mathlib.Core.List.{List}
+use mathlib.Core.List.{List, [], _∷_}
 use Prim.Native.Nat.{ℕ}
 use lib.Dec.{eqb}
+use lib.ListN.{getD}
 use borrow.Author.Tests.{eq-eqb, ne-eqb, eqb-true, eqb-false}
 use Rattle.laws.specs.Choice.{pick}
 use Rattle.laws.specs.Until.{untilRange}
 use Rattle.entry.specs.declared.step.Step.{Step}
-use Rattle.entry.specs.Refusals.{accepted, notSound}
+use Rattle.entry.specs.Refusals.{accepted, notSound, unless}
 use Rattle.entry.specs.Answer.{refusalNumber, refusedBy}
 use Rattle.rules.specs.declared.Machine.{Machine}
 use Rattle.rules.specs.declared.Stepped.{Stepped}
-use Rattle.rules.specs.declared.Ran.{Ran}
 use Rattle.rules.specs.State.{cachesOf, machineOf}
 use Rattle.rules.specs.SoundTest.{soundOf}
 use Rattle.rules.specs.Step.{takeStep, stepped, steppedOf, stepOf}
-use Rattle.rules.specs.Run.{written, Left, left, columnsOk, carried, turn, stopped, runSound, runOf}
-use Rattle.exports.specs.One.{alone, unwritten, firsts, inOne}
-use Rattle.exports.specs.Array.{machineIn, arrayOf, heldOk}
-use Rattle.exports.specs.Handed.{handed, stepLent, toldBy, stepIn}
+use Rattle.rules.specs.Run.{Steps, steps, Columns, columns, written, Left, left, columnsOk, carried, turn, stopped, runSound, runOf}
 use Rattle.rules.proofs.Refusing.{refusalOf, refused-stays}
+use Rattle.exports.specs.Array.{machineIn, arrayOf, heldOk}
+use Rattle.exports.specs.Handed.{Handed, handed, handedBy, StepLent, stepLent, toldBy, stepIn, RunLent, runLent, ranIn, runIn}
+
+abbrev pub alone : Step → Steps
+alone x = steps (x .op ∷ []) (x .core ∷ []) (x .word ∷ []) (x .value ∷ [])
+
+-- columns of one place that nothing was written to
+abbrev pub unwritten : Columns
+unwritten = columns (0 ∷ []) (0 ∷ []) (0 ∷ []) (0 ∷ []) (0 ∷ []) (0 ∷ []) (0 ∷ []) (0 ∷ [])
+
+-- the first place of each column
+abbrev pub firsts : Columns → List ℕ
+firsts c =
+    getD (c .answers) 0 0 ∷
+    getD (c .results) 0 0 ∷
+    getD (c .read) 0 0 ∷
+    getD (c .rfo) 0 0 ∷
+    getD (c .write) 0 0 ∷
+    getD (c .t-read) 0 0 ∷
+    getD (c .t-rfo) 0 0 ∷
+    getD (c .busy) 0 0 ∷
+    []
 
 -- what a run leaves that took the step, or was stopped by its refusal
 abbrev leftOf : Stepped → Left
@@ -55,44 +74,45 @@ module _ (m : Machine) (x : Step) where
       by true = taken
       by false = refl
 
-  -- so of a run of one step
-  module _ (r : Ran) (t : List ℕ) (e : (r, t) ≡ inOne (runOf m (alone x) unwritten)) where
-    abbrev n : ℕ
-    n = refusalNumber (stepOf m x .told .answer)
+-- what stirnfeld_step makes of what the run leaves: what it tells becomes the columns' places, where nothing is refused
+abbrev asStep : List ℕ → Handed RunLent → Handed StepLent
+asStep t h = handed (h .refusal) (stepLent (h .stands .state) (unless (eqb (h .refusal) accepted) t (firsts (h .stands .columns))))
 
-    abbrev done : Bool → Left
-    done b = pick b (left 1 accepted (stepOf m x .machine) (written unwritten 0 (stepOf m x .told))) (left 0 n (stepOf m x .machine) unwritten)
+module _ (s t : List ℕ) (x : Step) where
+  abbrev r : Stepped
+  r = stepOf (machineIn s) x
 
-    both-are : (r, t) ≡ inOne (done (eqb n accepted))
-    both-are = e ∙ ap inOne run-one
+  abbrev n : ℕ
+  n = refusalNumber (r .told .answer)
 
-    refusal-is : r .refusal ≡ n
-    refusal-is = ap (λ (z : Ran × List ℕ). z .0 .refusal) both-are ∙ by (eqb n accepted) refl
-      where
-        by : (b : Bool) → eqb n accepted ≡ b → done b .ran .refusal ≡ n
-        by true h = sym (eqb-true n accepted h)
-        by false h = refl
+  abbrev done : Bool → Left
+  done b = pick b (left 1 accepted (r .machine) (written unwritten 0 (r .told))) (left 0 n (r .machine) unwritten)
 
-    machine-is : r .machine ≡ stepOf m x .machine
-    machine-is = ap (λ (z : Ran × List ℕ). z .0 .machine) both-are ∙ by (eqb n accepted)
-      where
-        by : (b : Bool) → done b .ran .machine ≡ stepOf m x .machine
-        by true = refl
-        by false = refl
+  one-taken : asStep t (ranIn s (leftOf r .ran) (leftOf r .columns)) ≡ handedBy n (stepLent s t) (stepLent (arrayOf (r .machine)) (toldBy (r .told)))
+  one-taken = by (eqb n accepted) refl
+    where
+      by : (b : Bool) → eqb n accepted ≡ b → asStep t (ranIn s (done b .ran) (done b .columns))
+          ≡ handed n (unless b (stepLent s t) (stepLent (arrayOf (r .machine)) (toldBy (r .told))))
+      by true h = rw (eqb-true n accepted h)
+      by false h = rw h
 
-    told-is : n ≡ accepted → t ≡ toldBy (stepOf m x .told)
-    told-is z = ap (λ (y : Ran × List ℕ). y .1) both-are ∙ ap (λ b. firsts (done b .columns)) (eq-eqb n accepted z)
+  one-step : asStep t (runIn s (alone x) unwritten) ≡ stepIn s x t
+  unfolding runIn stepIn
+  one-step = by (heldOk s)
+    where
+      by : (b : Bool) → asStep t (unless b (handed notSound (runLent 0 s unwritten))
+          (ranIn s (runOf (machineIn s) (alone x) unwritten .ran) (runOf (machineIn s) (alone x) unwritten .columns)))
+          ≡ unless b (handed notSound (stepLent s t)) (handedBy n (stepLent s t) (stepLent (arrayOf (r .machine)) (toldBy (r .told))))
+      by true = rw (run-one (machineIn s) x) one-taken
+      by false = refl
 
--- What stirnfeld_step leaves, of an array that holds the machine m.
-module _ (s t : List ℕ) (x : Step) (held : heldOk s ≡ true) (m : Machine) (is : m ≡ machineIn s)
-    (r : Ran) (u : List ℕ) (e : (r, u) ≡ inOne (runOf m (alone x) unwritten)) where
-  pub refuses-step : (r .refusal ≡ accepted → ⊥) → handed (r .refusal) (stepLent s t) ≡ stepIn s x t
-  unfolding stepIn
-  refuses-step h = rw (held, ← is, ← refusal-is m x r u e, ne-eqb (r .refusal) accepted h)
+  -- so of a run that left this
+  module _ (k j : ℕ) (s' : List ℕ) (c : Columns) (e : handed k (runLent j s' c) ≡ runIn s (alone x) unwritten) where
+    as-step : asStep t (handed k (runLent j s' c)) ≡ stepIn s x t
+    as-step = ap (asStep t) e ∙ one-step
 
-  pub tells-step : r .refusal ≡ accepted → (s' : List ℕ) → s' ≡ arrayOf (r .machine) → (u' : List ℕ) → u' ≡ u
-      → handed accepted (stepLent s' u') ≡ stepIn s x t
-  unfolding stepIn
-  tells-step h s' es u' eu =
-      let n = refusal-is m x r u e in
-      rw (held, ← is, ← n, h, es, machine-is m x r u e, eu, told-is m x r u e (sym n ∙ h))
+    pub refuses-step : (k ≡ accepted → ⊥) → handed k (stepLent s' t) ≡ stepIn s x t
+    refuses-step h = rw (ne-eqb k accepted h) at as-step
+
+    pub tells-step : k ≡ accepted → (u : List ℕ) → u ≡ firsts c → handed accepted (stepLent s' u) ≡ stepIn s x t
+    tells-step h u eu = rw eu (ap (λ (z : ℕ). handed z (stepLent s' (firsts c))) (sym h) ∙ (rw (eq-eqb k accepted h) at as-step))

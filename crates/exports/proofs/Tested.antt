@@ -1,10 +1,10 @@
 -- The test of a range of places, as its loop makes it, and as a fact.
-use mathlib.Core.Path.{_≡_, refl, sym, _∙_}
+use mathlib.Core.Path.{_≡_, sym, _∙_}
 use mathlib.Core.Bool.{Bool, true, false}
 use mathlib.Core.List.{List}
 use Prim.Native.Nat.{ℕ, _+_, _-_, _<_, _≤_}
 use native.Mathlib.Omega.{arith}
-use lib.ListN.{getD}
+use lib.ListN.{length, getD}
 use borrow.Author.Tests.{lt-ltb, le-ltb, ltb-false, eq-eqb, ne-eqb, eqb-true}
 use Rattle.laws.specs.Choice.{both, both-left, both-right}
 use Rattle.laws.specs.Search.{firstFrom, first-end, first-hit, first-miss, none-at, none-of}
@@ -42,24 +42,33 @@ module _ (s : List ℕ) (most from to : ℕ) where
       eq-eqb found to
       (omega (arith, none-of (exceeds most s) from (to - from) (λ k a b. le-ltb most (getD s k 0) (f k a (omega arith)))))
 
--- five tests as one: put together from either side, and what they say of each
-pub five-tests : (a b c d e : Bool) → both (both (both (both a b) c) d) e ≡ both a (both b (both c (both d e)))
-five-tests true true true d e = refl
-five-tests true true false d e = refl
-five-tests true false c d e = refl
-five-tests false b c d e = refl
+-- what six tests that are one say of each
+each-of-six : (a b c d e f : Bool) → both a (both b (both c (both d (both e f)))) ≡ true →
+    (a ≡ true) × (b ≡ true) × (c ≡ true) × (d ≡ true) × (e ≡ true) × (f ≡ true)
+each-of-six a b c d e f h =
+    let i = both-right a (both b (both c (both d (both e f)))) h in
+    let j = both-right b (both c (both d (both e f))) i in
+    let k = both-right c (both d (both e f)) j in
+    let l = both-right d (both e f) k in (
+      both-left a (both b (both c (both d (both e f)))) h,
+      both-left b (both c (both d (both e f))) i,
+      both-left c (both d (both e f)) j,
+      both-left d (both e f) k,
+      both-left e f l,
+      both-right e f l,
+    )
 
-each-of-five : (a b c d e : Bool) → both a (both b (both c (both d e))) ≡ true →
-    (a ≡ true) × (b ≡ true) × (c ≡ true) × (d ≡ true) × (e ≡ true)
-each-of-five a b c d e h =
-    let i = both-right a (both b (both c (both d e))) h in
-    let j = both-right b (both c (both d e)) i in
-    let k = both-right c (both d e) j in
-    (both-left a (both b (both c (both d e))) h, both-left b (both c (both d e)) i, both-left c (both d e) j, both-left d e k, both-right d e k)
+-- what the test of an array says of it
+pub record Held (s : List ℕ) : Type 0 where
+  pub long : length s ≡ stateEnd
+  pub first : noneAbove 0 4 flagsFrom s ≡ true
+  pub flags : noneAbove trueFlag flagsFrom flagsEnd s ≡ true
+  pub between : noneAbove 0 flagsEnd memoryFrom s ≡ true
+  pub memory : noneAbove mostValue memoryFrom linesFrom s ≡ true
+  pub last : noneAbove 0 entriesEnd stateEnd s ≡ true
 
--- what the test of an array says of its places
-pub held-parts : (s : List ℕ) → heldOk s ≡ true →
-    (noneAbove 0 4 flagsFrom s ≡ true) × (noneAbove trueFlag flagsFrom flagsEnd s ≡ true) × (noneAbove 0 flagsEnd memoryFrom s ≡ true) ×
-    (noneAbove mostValue memoryFrom linesFrom s ≡ true) × (noneAbove 0 entriesEnd stateEnd s ≡ true)
+pub held : (s : List ℕ) → heldOk s ≡ true → Held s
 unfolding heldOk
-held-parts s h = each-of-five _ _ _ _ _ h
+held s h =
+    let t = each-of-six _ _ _ _ _ _ h in
+    record { long = eqb-true (length s) stateEnd (t .0); first = t .1; flags = t .2; between = t .3; memory = t .4; last = t .5 }

@@ -9,13 +9,18 @@ use crate::places::LINES_FROM;
 use crate::places::MEMORY_FROM;
 use crate::places::STATE_END;
 use crate::places::State;
+use rules::Copies;
 use rules::Dims;
+use rules::Flags;
 use rules::Machine;
+use rules::Memory;
 ghost use mathlib.Core.Path.{_≡_};
 ghost use mathlib.Core.Bool.{true};
 ghost use Prim.Native.Nat.{_≤_};
-ghost use Rattle.rules.specs.Lent.{before, after};
-ghost use Rattle.exports.specs.Array.{stateEnd, noneAbove, heldOk, machineIn, arrayOf};
+ghost use lib.Dec.{eqb};
+ghost use lib.ListN.{length};
+ghost use Rattle.rules.specs.Lent.{before, after, lent};
+ghost use Rattle.exports.specs.Array.{stateEnd, noneAbove, heldOk, dimsIn, machineIn, withParts, arrayOf};
 
 fn none_above(state: &State, most: u64, from: usize, to: usize) -> bool
     requires { ⌜ (from ≤ to) × (to ≤ stateEnd) ⌝ }
@@ -31,14 +36,34 @@ fn none_above(state: &State, most: u64, from: usize, to: usize) -> bool
     true
 }
 
+// A caller's array has this length by type. The definitions speak of lists, which have any, and an array tells its list's length where it is made
+// a slice.
+fn is_whole(state: &[u64]) -> bool
+    ensures { λ r. ⌜ r ≡ eqb (length (before state)) stateEnd ⌝ }
+{
+    state.len() == STATE_END
+}
+
 pub(crate) fn held_ok(state: &State) -> bool
     ensures { λ r. ⌜ r ≡ heldOk (before state) ⌝ }
 {
-    none_above(state, 0, 4, FLAGS_FROM)
+    is_whole(state)
+        & none_above(state, 0, 4, FLAGS_FROM)
         & none_above(state, 1, FLAGS_FROM, FLAGS_END)
         & none_above(state, 0, FLAGS_END, MEMORY_FROM)
         & none_above(state, 4294967295, MEMORY_FROM, LINES_FROM)
         & none_above(state, 0, ENTRIES_END, STATE_END)
+}
+
+pub(crate) fn dims_of(state: &State) -> Dims
+    ensures { λ r. ⌜ r ≡ dimsIn (before state) ⌝ }
+{
+    Dims {
+        processors: state[0] as usize,
+        words: state[1] as usize,
+        lines: state[2] as usize,
+        entries: state[3] as usize,
+    }
 }
 
 pub(crate) fn machine_of(state: &State) -> Machine
@@ -49,12 +74,7 @@ pub(crate) fn machine_of(state: &State) -> Machine
     let lines = copying::copies_of(state, LINES_FROM);
     let entries = copying::copies_of(state, ENTRIES_FROM);
     let flags = copying::flags_of(state);
-    let d = Dims {
-        processors: state[0] as usize,
-        words: state[1] as usize,
-        lines: state[2] as usize,
-        entries: state[3] as usize,
-    };
+    let d = dims_of(state);
     Machine {
         dims: d,
         memory: memory,
@@ -62,6 +82,21 @@ pub(crate) fn machine_of(state: &State) -> Machine
         entries: entries,
         flags: flags,
     }
+}
+
+pub(crate) fn put_parts(
+    state: &mut State,
+    memory: &Memory,
+    lines: &Copies,
+    entries: &Copies,
+    flags: &Flags,
+)
+    ensures { λ r. ⌜ after state ≡ withParts (before state) (lent memory lines entries flags) ⌝ }
+{
+    copying::put_flags(state, flags);
+    copying::put_memory(state, memory);
+    copying::put_copies(state, LINES_FROM, lines);
+    copying::put_copies(state, ENTRIES_FROM, entries);
 }
 
 pub(crate) fn put_machine(state: &mut State, m: Machine)
@@ -73,8 +108,9 @@ pub(crate) fn put_machine(state: &mut State, m: Machine)
     state[1] = d.words as u64;
     state[2] = d.lines as u64;
     state[3] = d.entries as u64;
-    copying::put_flags(state, &m.flags);
-    copying::put_memory(state, &m.memory);
-    copying::put_copies(state, LINES_FROM, &m.lines);
-    copying::put_copies(state, ENTRIES_FROM, &m.entries);
+    let memory = m.memory;
+    let lines = m.lines;
+    let entries = m.entries;
+    let flags = m.flags;
+    put_parts(state, &memory, &lines, &entries, &flags);
 }

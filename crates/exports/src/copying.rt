@@ -9,7 +9,6 @@ use rules::Memory;
 ghost use mathlib.Core.Path.{_≡_};
 ghost use mathlib.Core.Bool.{true};
 ghost use Prim.Native.Nat.{_+_, _≤_};
-ghost use lib.ListN.{length};
 ghost use lib.Seq.{sets};
 ghost use Rattle.rules.specs.State.{trueFlag};
 ghost use Rattle.rules.specs.Lent.{before, after};
@@ -39,6 +38,12 @@ fn wide_flag(x: u8) -> u64
     ensures { λ r. ⌜ r ≡ x ⌝ }
 {
     x as u64
+}
+
+pub(crate) fn wide_number(x: u8) -> u32
+    ensures { λ r. ⌜ r ≡ x ⌝ }
+{
+    x as u32
 }
 
 pub(crate) fn memory_of(state: &State) -> Memory
@@ -81,8 +86,7 @@ pub(crate) fn copies_of(state: &State, from: usize) -> Copies
 }
 
 pub(crate) fn put_memory(state: &mut State, whole: &Memory)
-    requires { ⌜ length (now whole) ≡ 256 ⌝ }
-    ensures { λ r. ⌜ after state ≡ sets (before state) memoryFrom (before whole) ⌝ }
+    ensures { λ r. ⌜ after state ≡ sets (before state) memoryFrom (part 0 256 (before whole)) ⌝ }
 {
     let mut i: usize = 0;
     while i < 256 {
@@ -92,8 +96,7 @@ pub(crate) fn put_memory(state: &mut State, whole: &Memory)
 }
 
 pub(crate) fn put_flags(state: &mut State, whole: &Flags)
-    requires { ⌜ length (now whole) ≡ 16 ⌝ }
-    ensures { λ r. ⌜ after state ≡ sets (before state) flagsFrom (before whole) ⌝ }
+    ensures { λ r. ⌜ after state ≡ sets (before state) flagsFrom (part 0 16 (before whole)) ⌝ }
 {
     let mut i: usize = 0;
     while i < 16 {
@@ -103,8 +106,8 @@ pub(crate) fn put_flags(state: &mut State, whole: &Flags)
 }
 
 pub(crate) fn put_copies(state: &mut State, from: usize, whole: &Copies)
-    requires { ⌜ (from + 512 ≤ stateEnd) × (length (now whole) ≡ 512) ⌝ }
-    ensures { λ r. ⌜ after state ≡ sets (before state) from (before whole) ⌝ }
+    requires { ⌜ from + 512 ≤ stateEnd ⌝ }
+    ensures { λ r. ⌜ after state ≡ sets (before state) from (part 0 512 (before whole)) ⌝ }
 {
     let mut i: usize = 0;
     while i < 512 {

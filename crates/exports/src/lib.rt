@@ -3,13 +3,14 @@
 
 mod array;
 mod copying;
-mod one;
+mod held;
 mod places;
 
 use crate::array::held_ok;
 use crate::array::machine_of;
 use crate::array::put_machine;
-use crate::one::run_one;
+use crate::copying::wide_number;
+use crate::held::run_held;
 use crate::places::State;
 use entry::refusals::ACCEPTED;
 use entry::refusals::NOT_SOUND;
@@ -53,7 +54,8 @@ pub extern "C" fn stirnfeld_sound(state: &State) -> u8
     NOT_SOUND
 }
 
-// told becomes the answer's number, its value, and the six counts.
+// told becomes the answer's number, its value, and the six counts. The step is a run of one place: so the library has one call of the machine's
+// steps, and the compiler writes them out in the run's loop.
 #[no_mangle]
 pub extern "C" fn stirnfeld_step(
     state: &mut State,
@@ -65,17 +67,42 @@ pub extern "C" fn stirnfeld_step(
 ) -> u8
     ensures { λ r. ⌜ handed r (stepLent (after state) (after told)) ≡ stepIn (before state) (step op core word value) (before told) ⌝ }
 {
-    if !held_ok(state) {
-        return NOT_SOUND;
+    let mut number = [0u8];
+    let mut result = [0u32];
+    let mut read = [0u32];
+    let mut rfo = [0u32];
+    let mut write = [0u32];
+    let mut t_read = [0u32];
+    let mut t_rfo = [0u32];
+    let mut busy = [0u32];
+    let h = run_held(
+        state,
+        &[op],
+        &[core],
+        &[word],
+        &[value],
+        &mut number,
+        &mut result,
+        &mut read,
+        &mut rfo,
+        &mut write,
+        &mut t_read,
+        &mut t_rfo,
+        &mut busy,
+    );
+    if h.refusal != ACCEPTED {
+        return h.refusal;
     }
-    let m = machine_of(state);
-    let mut answer = [0u32; 8];
-    let one = run_one(m, op, core, word, value, &mut answer);
-    if one.refusal != ACCEPTED {
-        return one.refusal;
-    }
-    put_machine(state, one.machine);
-    *told = answer;
+    *told = [
+        wide_number(number[0]),
+        result[0],
+        read[0],
+        rfo[0],
+        write[0],
+        t_read[0],
+        t_rfo[0],
+        busy[0],
+    ];
     ACCEPTED
 }
 
@@ -102,13 +129,8 @@ pub extern "C" fn stirnfeld_run(
         ⌜ handed r (runLent (after taken) (after state) (c .exit)) ≡
         runIn (before state) (lentSteps ops cores «used_words» values) (c .entry) ⌝ }
 {
-    if !held_ok(state) {
-        *taken = 0;
-        return NOT_SOUND;
-    }
-    let m = machine_of(state);
-    let ran = runs::run(
-        m,
+    let h = run_held(
+        state,
         ops,
         cores,
         used_words,
@@ -122,11 +144,8 @@ pub extern "C" fn stirnfeld_run(
         t_rfos,
         busies,
     );
-    *taken = ran.taken;
-    if ran.taken != 0 {
-        put_machine(state, ran.machine);
-    }
-    ran.refusal
+    *taken = h.taken;
+    h.refusal
 }
 
 // values becomes every word's settled value, and 0 past the words.

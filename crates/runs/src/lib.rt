@@ -1,17 +1,24 @@
-// The published run: a trace in columns, from a machine by value. Inside, nothing that holds an array goes by value.
+// The published run: a trace in columns, from a machine by value or from the four arrays of its state, lent. Inside, nothing that holds an array
+// goes by value.
 
 mod columns;
-mod running;
+pub mod running;
 
 use crate::columns::also;
+use crate::running::Halt;
 use entry::refusals::BAD_COLUMNS;
 use entry::refusals::NOT_SOUND;
+use rules::Copies;
+use rules::Dims;
+use rules::Flags;
 use rules::Machine;
+use rules::Memory;
 use rules::Ran;
 ghost use mathlib.Core.Path.{_≡_};
-ghost use Rattle.rules.specs.Run.{columnsOk, runOf};
-ghost use Rattle.runs.specs.Halting.{leftBy};
-ghost use Rattle.rules.specs.Lent.{lentSteps, columnsOf};
+ghost use Rattle.rules.specs.State.{machineOf};
+ghost use Rattle.rules.specs.Run.{carried, columnsOk, runOf};
+ghost use Rattle.rules.specs.Lent.{lent, returned, lentSteps, columnsOf};
+ghost use Rattle.runs.specs.Halting.{leftBy, halted};
 
 // The columns have one length, at most 65,536.
 fn columns_ok(
@@ -46,6 +53,77 @@ fn columns_ok(
     also(j, busy.len(), n)
 }
 
+// A run that is refused, or that stops, leaves the state that it reached.
+pub fn run_lent(
+    memory: &mut Memory,
+    lines: &mut Copies,
+    entries: &mut Copies,
+    flags: &mut Flags,
+    d: Dims,
+    ops: &[u8],
+    cores: &[u8],
+    words: &[u32],
+    values: &[u32],
+    answers: &mut [u8],
+    results: &mut [u32],
+    read: &mut [u32],
+    rfo: &mut [u32],
+    write: &mut [u32],
+    t_read: &mut [u32],
+    t_rfo: &mut [u32],
+    busy: &mut [u32],
+) -> Halt
+    ensures { λ r.
+        let c = columnsOf answers results read rfo write «t_read» «t_rfo» busy in
+        ⌜ halted d r (carried (returned memory lines entries flags) (c .exit)) ≡
+        runOf (machineOf d (lent memory lines entries flags)) (lentSteps ops cores words values) (c .entry) ⌝ }
+{
+    if !sound::sound(memory, lines, entries, flags, d) {
+        return Halt {
+            taken: 0,
+            refusal: NOT_SOUND,
+        };
+    }
+    if !columns_ok(
+        ops,
+        cores,
+        words,
+        values,
+        answers,
+        results,
+        read,
+        rfo,
+        write,
+        t_read,
+        t_rfo,
+        busy,
+    ) {
+        return Halt {
+            taken: 0,
+            refusal: BAD_COLUMNS,
+        };
+    }
+    running::run_sound(
+        memory,
+        lines,
+        entries,
+        flags,
+        d,
+        ops,
+        cores,
+        words,
+        values,
+        answers,
+        results,
+        read,
+        rfo,
+        write,
+        t_read,
+        t_rfo,
+        busy,
+    )
+}
+
 pub fn run(
     m: Machine,
     ops: &[u8],
@@ -65,39 +143,12 @@ pub fn run(
         let c = columnsOf answers results read rfo write «t_read» «t_rfo» busy in
         ⌜ leftBy r (c .exit) ≡ runOf m (lentSteps ops cores words values) (c .entry) ⌝ }
 {
-    if !machine::sound(m) {
-        return Ran {
-            taken: 0,
-            refusal: NOT_SOUND,
-            machine: m,
-        };
-    }
-    if !columns_ok(
-        ops,
-        cores,
-        words,
-        values,
-        answers,
-        results,
-        read,
-        rfo,
-        write,
-        t_read,
-        t_rfo,
-        busy,
-    ) {
-        return Ran {
-            taken: 0,
-            refusal: BAD_COLUMNS,
-            machine: m,
-        };
-    }
     let d = m.dims;
     let mut memory = m.memory;
     let mut lines = m.lines;
     let mut entries = m.entries;
     let mut flags = m.flags;
-    let h = running::run_sound(
+    let h = run_lent(
         &mut memory,
         &mut lines,
         &mut entries,

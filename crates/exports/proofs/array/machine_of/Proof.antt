@@ -1,41 +1,39 @@
-use borrow.Author.Needs.{needs}
 use Rattle.exports.specs.Array.{machineIn}
-use Rattle.exports.proofs.Tested.{held-parts}
+use Rattle.exports.proofs.Tested.{held}
+use borrow.Author.Needs.{needs}
 use Rattle.exports.proofs.array.machine_of.Statement.{statement}
 use Rattle.exports.proofs.array.machine_of.Tie as tie
+use Rattle.exports.proofs.array.machine_of.Reads as reads
+use Rattle.exports.proofs.array.machine_of.Lts as lts
+use Rattle.exports.proofs.array.dims_of.Reads as dims-of-reads
+use Rattle.exports.proofs.copying.copies_of.Reads as copies-of-reads
+use Rattle.exports.proofs.copying.flags_of.Reads as flags-of-reads
+use Rattle.exports.proofs.copying.memory_of.Reads as memory-of-reads
 
+-- src/array.rt:62:9
 memory-of-requires : tie.Need-memory-of-requires
-memory-of-requires c κs = held-parts _ (c .pre) .3
+memory-of-requires c κs = held _ (c .pre) .memory
 
+-- src/array.rt:63:9
 copies-of-requires : tie.Need-copies-of-requires
 copies-of-requires c κs = search needs
 
+-- src/array.rt:64:9
 copies-of-requires-2 : tie.Need-copies-of-requires-2
 copies-of-requires-2 c κs = search needs
 
+-- src/array.rt:65:9
 flags-of-requires : tie.Need-flags-of-requires
-flags-of-requires c κs = held-parts _ (c .before .before .before .pre) .1
+flags-of-requires c κs = held _ (c .before .before .before .pre) .flags
 
-element-copy-out-t9 : tie.Need-element-copy-out-t9
-element-copy-out-t9 c = search needs
+-- src/array.rt:66:9
+dims-of-requires : tie.Need-dims-of-requires
+dims-of-requires c κs = search needs
 
-element-copy-out-t13 : tie.Need-element-copy-out-t13
-element-copy-out-t13 c = search needs
-
-element-copy-out-t17 : tie.Need-element-copy-out-t17
-element-copy-out-t17 c = search needs
-
-element-copy-out-t21 : tie.Need-element-copy-out-t21
-element-copy-out-t21 c = search needs
-
+-- src/array.rt:58:1
 returns : tie.Need-returns
 unfolding machineIn
-returns c =
-    let c1 = c .before .before .before .before in
-    let c2 = c1 .before in
-    let c3 = c2 .before in
-    let c4 = c3 .before in
-    rw (c4 .memory-of .ensures, c3 .copies-of .ensures, c2 .copies-of2 .ensures, c1 .flags-of .ensures)
+returns c = rw (c .before .before .before .before .memory-of .ensures, c .before .before .before .copies-of .ensures, c .before .before .copies-of2 .ensures, c .before .flags-of .ensures, c .dims-of .ensures)
 
 pub machine-of-spec : {M : Type 1} → statement M
 machine-of-spec =
@@ -45,8 +43,5 @@ machine-of-spec =
     copies-of-requires
     copies-of-requires-2
     flags-of-requires
-    element-copy-out-t9
-    element-copy-out-t13
-    element-copy-out-t17
-    element-copy-out-t21
+    dims-of-requires
     returns)

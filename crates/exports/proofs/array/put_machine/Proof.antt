@@ -1,39 +1,35 @@
-use borrow.Author.Needs.{needs}
 use Rattle.exports.specs.Array.{arrayOf, blank}
+use borrow.Author.Needs.{needs}
 use Rattle.exports.proofs.array.put_machine.Statement.{statement}
 use Rattle.exports.proofs.array.put_machine.Tie as tie
+use Rattle.exports.proofs.array.put_machine.Reads as reads
+use Rattle.exports.proofs.array.put_machine.Lts as lts
+use Rattle.exports.proofs.array.put_parts.Reads as put-parts-reads
 
+-- src/array.rt:107:5
 element-write-state : tie.Need-element-write-state
 element-write-state c = search needs
 
+-- src/array.rt:108:5
 element-write-state-2 : tie.Need-element-write-state-2
 element-write-state-2 c = search needs
 
+-- src/array.rt:109:5
 element-write-state-3 : tie.Need-element-write-state-3
 element-write-state-3 c = search needs
 
+-- src/array.rt:110:5
 element-write-state-4 : tie.Need-element-write-state-4
 element-write-state-4 c = search needs
 
-put-flags-requires : tie.Need-put-flags-requires
-put-flags-requires c κs = search needs
+-- src/array.rt:115:5
+put-parts-requires : tie.Need-put-parts-requires
+put-parts-requires c κs = search needs
 
-put-memory-requires : tie.Need-put-memory-requires
-put-memory-requires c κs = search needs
-
-put-copies-requires : tie.Need-put-copies-requires
-put-copies-requires c κs = search needs
-
-put-copies-requires-2 : tie.Need-put-copies-requires-2
-put-copies-requires-2 c κs = search needs
-
+-- src/array.rt:102:1
 returns : tie.Need-returns
 unfolding arrayOf blank
-returns c =
-    let c1 = c .before .before .before .before in
-    let c2 = c1 .before .before .before .before in
-    let c3 = c2 .before .before .before .before in
-    rw (c .put-copies2 .ensures, c1 .put-copies .ensures, c2 .put-memory .ensures, c3 .put-flags .ensures)
+returns c = c .put-parts .ensures
 
 pub put-machine-spec : {M : Type 1} → statement M
 put-machine-spec =
@@ -43,8 +39,5 @@ put-machine-spec =
     element-write-state-2
     element-write-state-3
     element-write-state-4
-    put-flags-requires
-    put-memory-requires
-    put-copies-requires
-    put-copies-requires-2
+    put-parts-requires
     returns)

@@ -3,12 +3,13 @@ use Prim.Native.Nat.{_≤_, _-_}
 use lib.ListN.{take}
 use lib.Seq.{sets}
 use borrow.Author.Needs.{needs}
+use Rattle.exports.specs.Array.{part}
 use Rattle.exports.proofs.Copied.{put-turn, put-end}
 use Rattle.exports.proofs.copying.put_copies.Statement.{statement}
 use Rattle.exports.proofs.copying.put_copies.Tie as tie
 
 abbrev Inv-loop : tie.InvT-loop
-Inv-loop state₀ from whole i₀ state i = (i ≤ 512) × (state ≡ sets state₀ from (take i whole))
+Inv-loop state₀ from whole i₀ state i = (i ≤ 512) × (state ≡ sets state₀ from (take i (part 0 512 whole)))
 
 abbrev μ-loop : tie.MeasureT-loop
 μ-loop state₀ from whole i₀ state i = 512 - i
@@ -42,14 +43,14 @@ loop-again c =
     let l = c .before .before .loop in
     let x = c .before .before .before .args in (
       search needs,
-      put-turn (x .state .now) (x .whole .now) (l .state) (x .from) (l .i) (l .inv .1) (search needs),
+      put-turn (x .state .now) (x .whole .now) (l .state) (x .from) 512 (l .i) (l .inv .1) (search needs),
     )
 
 returns : tie.Need-returns Inv-loop μ-loop
 returns c =
     let l = c .before .loop in
     let x = c .before .before .args in
-    put-end (x .state .now) (x .whole .now) (l .state) (x .from) (l .i) (l .inv .1) (search needs)
+    put-end (x .state .now) (x .whole .now) (l .state) (x .from) 512 (l .i) (l .inv .1) (search needs)
 
 pub put-copies-spec : {M : Type 1} → statement M
 put-copies-spec =

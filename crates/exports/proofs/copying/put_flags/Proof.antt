@@ -3,13 +3,13 @@ use Prim.Native.Nat.{_≤_, _-_}
 use lib.ListN.{take}
 use lib.Seq.{sets}
 use borrow.Author.Needs.{needs}
-use Rattle.exports.specs.Array.{flagsFrom}
+use Rattle.exports.specs.Array.{flagsFrom, part}
 use Rattle.exports.proofs.Copied.{put-turn, put-end}
 use Rattle.exports.proofs.copying.put_flags.Statement.{statement}
 use Rattle.exports.proofs.copying.put_flags.Tie as tie
 
 abbrev Inv-loop : tie.InvT-loop
-Inv-loop state₀ whole i₀ state i = (i ≤ 16) × (state ≡ sets state₀ flagsFrom (take i whole))
+Inv-loop state₀ whole i₀ state i = (i ≤ 16) × (state ≡ sets state₀ flagsFrom (take i (part 0 16 whole)))
 
 abbrev μ-loop : tie.MeasureT-loop
 μ-loop state₀ whole i₀ state i = 16 - i
@@ -43,14 +43,14 @@ loop-again c =
     let l = c .before .before .before .loop in
     let x = c .before .before .before .before .args in (
       search needs,
-      rw (c .wide-flag .ensures) (put-turn (x .state .now) (x .whole .now) (l .state) flagsFrom (l .i) (l .inv .1) (search needs)),
+      rw (c .wide-flag .ensures) (put-turn (x .state .now) (x .whole .now) (l .state) flagsFrom 16 (l .i) (l .inv .1) (search needs)),
     )
 
 returns : tie.Need-returns Inv-loop μ-loop
 returns c =
     let l = c .before .loop in
     let x = c .before .before .args in
-    put-end (x .state .now) (x .whole .now) (l .state) flagsFrom (l .i) (l .inv .1) (search needs)
+    put-end (x .state .now) (x .whole .now) (l .state) flagsFrom 16 (l .i) (l .inv .1) (search needs)
 
 pub put-flags-spec : {M : Type 1} → statement M
 put-flags-spec =

@@ -3,13 +3,13 @@ use Prim.Native.Nat.{_≤_, _-_}
 use lib.ListN.{take}
 use lib.Seq.{sets}
 use borrow.Author.Needs.{needs}
-use Rattle.exports.specs.Array.{memoryFrom}
+use Rattle.exports.specs.Array.{memoryFrom, part}
 use Rattle.exports.proofs.Copied.{put-turn, put-end}
 use Rattle.exports.proofs.copying.put_memory.Statement.{statement}
 use Rattle.exports.proofs.copying.put_memory.Tie as tie
 
 abbrev Inv-loop : tie.InvT-loop
-Inv-loop state₀ whole i₀ state i = (i ≤ 256) × (state ≡ sets state₀ memoryFrom (take i whole))
+Inv-loop state₀ whole i₀ state i = (i ≤ 256) × (state ≡ sets state₀ memoryFrom (take i (part 0 256 whole)))
 
 abbrev μ-loop : tie.MeasureT-loop
 μ-loop state₀ whole i₀ state i = 256 - i
@@ -46,14 +46,14 @@ loop-again c =
     let l = c .before .before .before .loop in
     let x = c .before .before .before .before .args in (
       search needs,
-      rw (c .wide-value .ensures) (put-turn (x .state .now) (x .whole .now) (l .state) memoryFrom (l .i) (l .inv .1) (search needs)),
+      rw (c .wide-value .ensures) (put-turn (x .state .now) (x .whole .now) (l .state) memoryFrom 256 (l .i) (l .inv .1) (search needs)),
     )
 
 returns : tie.Need-returns Inv-loop μ-loop
 returns c =
     let l = c .before .loop in
     let x = c .before .before .args in
-    put-end (x .state .now) (x .whole .now) (l .state) memoryFrom (l .i) (l .inv .1) (search needs)
+    put-end (x .state .now) (x .whole .now) (l .state) memoryFrom 256 (l .i) (l .inv .1) (search needs)
 
 pub put-memory-spec : {M : Type 1} → statement M
 put-memory-spec =

@@ -2,8 +2,8 @@ use mathlib.Core.Path.{_∙_, sym}
 use borrow.Author.Tests.{not-true, not-false}
 use Rattle.rules.specs.Run.{runOf}
 use borrow.Author.Needs.{needs}
-use Rattle.runs.proofs.run.Statement.{statement}
-use Rattle.runs.proofs.run.Tie as tie
+use Rattle.runs.proofs.run_lent.Statement.{statement}
+use Rattle.runs.proofs.run_lent.Tie as tie
 
 sound-requires : tie.Need-sound-requires
 sound-requires c κs = search needs
@@ -53,7 +53,7 @@ returns-2 c =
 
 run-sound-requires : tie.Need-run-sound-requires
 run-sound-requires c κs =
-    let c1 = c .before .before .before .before .before .before .before .before .before .before .before .before .before .before .before .before .before in
+    let c1 = c .before .before .before .before .before .before .before .before .before .before .before .before in
     let c2 = c1 .before in
     sym (c2 .columns-ok .ensures) ∙ not-false (c2 .columns-ok .result) (c1 .if2 .left)
 
@@ -85,8 +85,7 @@ returns-3 : tie.Need-returns-3
 unfolding runOf
 returns-3 c =
     let c1 = c .before .before .before .before .before .before .before .before .before .before .before .before .before .before .before .before in
-    let moved = c1 .before .before .before .before .before .before .before .before .before .before .before .before .before in
-    let c2 = moved .before .before .before .before .before in
+    let c2 = c1 .before .before .before .before .before .before .before .before .before .before .before .before .before in
     let c3 = c2 .before in
     let c4 = c3 .before .before .before .before .before .before .before .before .before in
     let c5 = c4 .before in
@@ -98,8 +97,8 @@ returns-3 c =
     )
     (c1 .run-sound .ensures)
 
-pub run-spec : {M : Type 1} → statement M
-run-spec =
+pub run-lent-spec : {M : Type 1} → statement M
+run-lent-spec =
     tie.close
     (tie.spec
     sound-requires
