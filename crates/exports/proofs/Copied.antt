@@ -1,12 +1,12 @@
 -- A part of one list copied place by place, out of it and into it.
 use mathlib.Core.Path.{_≡_, refl, sym, _∙_, ap}
 use mathlib.Core.List.{List, [], _∷_, _++_}
-use Prim.Native.Nat.{ℕ, zero, suc, _+_, _<_, _≤_}
+use Prim.Native.Nat.{ℕ, zero, suc, _+_, _-_, _<_, _≤_}
 use native.Mathlib.Omega.{arith}
 use native.Mathlib.Numerals.{add-one}
 use native.Mathlib.Nat.{add-zero, add-suc, suc-add, zero-add}
 use lib.ListN.{length, getD, set, take}
-use lib.Seq.{take-all, take-suc, take-suc-set, length-take-le, sets, ext-getD}
+use lib.Seq.{take-all, take-suc, take-suc-set, sets, ext-getD}
 use Rattle.exports.specs.Array.{part}
 
 pub part-length : (from n : ℕ) (s : List ℕ) → length (part from n s) ≡ n
@@ -34,27 +34,55 @@ module _ (s to : List ℕ) (from n i : ℕ) (e : take i to ≡ take i (part from
   pub read-end : n ≤ i → length to ≤ n → to ≡ part from n s
   read-end l t = sym (take-all i to (omega arith)) ∙ e ∙ take-all i (part from n s) (omega (arith, part-length from n s))
 
--- what is written last stands at the end
-sets-last : (s l : List ℕ) (from x : ℕ) → sets s from (l ++ (x ∷ [])) ≡ set (sets s from l) (from + length l) x
-sets-last s [] from x = rw add-zero
-sets-last s (y ∷ l) from x =
-    sets-last (set s from y) l (suc from) x ∙
-    ap (λ (k : ℕ). set (sets (set s from y) (suc from) l) k x) (suc-add from (length l) ∙ sym (add-suc from (length l)))
+-- one list written after another
+sets-two : (s l m : List ℕ) (at : ℕ) → sets s at (l ++ m) ≡ sets (sets s at l) (at + length l) m
+sets-two s [] m at = rw add-zero
+sets-two s (x ∷ l) m at =
+    sets-two (set s at x) l m (suc at) ∙
+    ap (λ (k : ℕ). sets (sets (set s at x) (suc at) l) k m) (suc-add at (length l) ∙ sym (add-suc at (length l)))
 
--- the first n numbers of l are written over s from a place on; now is what s has become
-module _ (s l now : List ℕ) (from n i : ℕ) (e : now ≡ sets s from (take i (part 0 n l))) where
-  abbrev p : List ℕ
-  p = part 0 n l
+part-two : (from n k : ℕ) (s : List ℕ) → part from (n + k) s ≡ part from n s ++ part (from + n) k s
+unfolding part
+part-two from zero k s = rw (zero-add, add-zero)
+part-two from (suc n) k s =
+    rw suc-add
+    (ap (λ (l : List ℕ). getD s from 0 ∷ l)
+    (part-two (suc from) n k s ∙ ap (λ (j : ℕ). part (suc from) n s ++ part j k s) (suc-add from n ∙ sym (add-suc from n))))
 
-  pub put-turn : i < n → set now (from + i) (getD l i 0) ≡ sets s from (take (i + 1) (part 0 n l))
-  put-turn t =
-      let k = length-take-le i p (omega (arith, part-length 0 n l)) in
-      let v = part-at 0 n l i t ∙ ap (λ (j : ℕ). getD l j 0) (zero-add i) in
-      rw (add-one, e, take-suc p i 0 (omega (arith, part-length 0 n l)), v)
-      (ap (λ (j : ℕ). set (sets s from (take i p)) (from + j) (getD l i 0)) (sym k) ∙ sym (sets-last s (take i p) from (getD l i 0)))
+-- n numbers of l, from a place of it on, and then k more are written over s
+pub put-two : (s l : List ℕ) (at from n k : ℕ) →
+    sets (sets s at (part from n l)) (at + n) (part (from + n) k l) ≡ sets s at (part from (n + k) l)
+put-two s l at from n k =
+    rw (part-two from n k l, sets-two s (part from n l) (part (from + n) k l) at, part-length from n l)
 
-  pub put-end : n ≤ i → now ≡ sets s from (part 0 n l)
-  put-end t = e ∙ ap (λ (k : List ℕ). sets s from k) (take-all i p (omega (arith, part-length 0 n l)))
+-- the first n, then k more
+pub put-halves : (s l s1 s2 : List ℕ) (on n k : ℕ) → s1 ≡ sets s (on + 0) (part 0 n l) → s2 ≡ sets s1 (on + n) (part n k l) →
+    s2 ≡ sets s on (part 0 (n + k) l)
+put-halves s l s1 s2 on n k e f =
+    f ∙ rw (e, add-zero) (ap (λ (j : ℕ). sets (sets s on (part 0 n l)) (on + n) (part j k l)) (sym (zero-add n)) ∙ put-two s l on 0 n k)
+
+-- n numbers of l, from a place of it on, were written over s, which is now; one more is written
+pub put-turn : (s l now : List ℕ) (at from n : ℕ) → now ≡ sets s at (part from n l) →
+    set now (at + n) (getD l (from + n) 0) ≡ sets s at (part from (n + 1) l)
+unfolding part
+put-turn s l now at from n e = rw e (put-two s l at from n 1)
+
+-- the first i numbers
+pub put-first : (s l now : List ℕ) (at i : ℕ) → now ≡ sets s at (part 0 i l) → set now (at + i) (getD l i 0) ≡ sets s at (part 0 (i + 1) l)
+put-first s l now at i e = ap (λ (j : ℕ). set now (at + i) (getD l j 0)) (sym (zero-add i)) ∙ put-turn s l now at 0 i e
+
+-- those from a place up to i, each as far on as the others: at first none
+pub put-none : (s l : List ℕ) (on from : ℕ) → s ≡ sets s (on + from) (part from (from - from) l)
+unfolding part
+put-none s l on from = let z : from - from ≡ 0 = omega arith in rw z
+
+pub put-place : (s l now : List ℕ) (on from i : ℕ) → from ≤ i → now ≡ sets s (on + from) (part from (i - from) l) →
+    set now (on + i) (getD l i 0) ≡ sets s (on + from) (part from (i + 1 - from) l)
+put-place s l now on from i h e =
+    let a : on + from + (i - from) ≡ on + i = omega arith in
+    let b : from + (i - from) ≡ i = omega arith in
+    let c : i - from + 1 ≡ i + 1 - from = omega arith in
+    rw (a, b, c) at (put-turn s l now (on + from) from (i - from) e)
 
 -- all numbers of a list
 pub part-whole : (n : ℕ) (l : List ℕ) → length l ≡ n → part 0 n l ≡ l

@@ -1,20 +1,20 @@
-use mathlib.Core.Path.{_≡_, refl}
-use Prim.Native.Nat.{_≤_, _-_}
-use lib.ListN.{take}
+use mathlib.Core.Path.{_≡_, refl, _∙_, ap}
+use Prim.Native.Nat.{ℕ, _≤_, _-_}
 use lib.Seq.{sets}
 use borrow.Author.Needs.{needs}
 use Rattle.exports.specs.Array.{flagsFrom, part}
-use Rattle.exports.proofs.Copied.{put-turn, put-end}
+use Rattle.exports.proofs.Copied.{put-first}
 use Rattle.exports.proofs.copying.put_flags.Statement.{statement}
 use Rattle.exports.proofs.copying.put_flags.Tie as tie
 
 abbrev Inv-loop : tie.InvT-loop
-Inv-loop state₀ whole i₀ state i = (i ≤ 16) × (state ≡ sets state₀ flagsFrom (take i (part 0 16 whole)))
+Inv-loop state₀ whole i₀ state i = (i ≤ 16) × (state ≡ sets state₀ flagsFrom (part 0 i whole))
 
 abbrev μ-loop : tie.MeasureT-loop
 μ-loop state₀ whole i₀ state i = 16 - i
 
 loop-holds : tie.Need-loop-holds Inv-loop μ-loop
+unfolding part
 loop-holds c = (search needs, refl)
 
 element-copy-out-wide-flag : tie.Need-element-copy-out-wide-flag Inv-loop μ-loop
@@ -43,14 +43,14 @@ loop-again c =
     let l = c .before .before .before .loop in
     let x = c .before .before .before .before .args in (
       search needs,
-      rw (c .wide-flag .ensures) (put-turn (x .state .now) (x .whole .now) (l .state) flagsFrom 16 (l .i) (l .inv .1) (search needs)),
+      rw (c .wide-flag .ensures) (put-first (x .state .now) (x .whole .now) (l .state) flagsFrom (l .i) (l .inv .1)),
     )
 
 returns : tie.Need-returns Inv-loop μ-loop
 returns c =
     let l = c .before .loop in
-    let x = c .before .before .args in
-    put-end (x .state .now) (x .whole .now) (l .state) flagsFrom 16 (l .i) (l .inv .1) (search needs)
+    let e : l .i ≡ 16 = search needs in
+    l .inv .1 ∙ ap (λ (k : ℕ). sets (c .before .before .args .state .now) flagsFrom (part 0 k (c .before .before .args .whole .now))) e
 
 pub put-flags-spec : {M : Type 1} → statement M
 put-flags-spec =

@@ -1,20 +1,20 @@
-use mathlib.Core.Path.{_≡_, refl}
-use Prim.Native.Nat.{_≤_, _-_}
-use lib.ListN.{take}
+use mathlib.Core.Path.{_≡_, refl, _∙_, ap}
+use Prim.Native.Nat.{ℕ, _≤_, _-_}
 use lib.Seq.{sets}
 use borrow.Author.Needs.{needs}
 use Rattle.exports.specs.Array.{memoryFrom, part}
-use Rattle.exports.proofs.Copied.{put-turn, put-end}
+use Rattle.exports.proofs.Copied.{put-first}
 use Rattle.exports.proofs.copying.put_memory.Statement.{statement}
 use Rattle.exports.proofs.copying.put_memory.Tie as tie
 
 abbrev Inv-loop : tie.InvT-loop
-Inv-loop state₀ whole i₀ state i = (i ≤ 256) × (state ≡ sets state₀ memoryFrom (take i (part 0 256 whole)))
+Inv-loop state₀ whole i₀ state i = (i ≤ 256) × (state ≡ sets state₀ memoryFrom (part 0 i whole))
 
 abbrev μ-loop : tie.MeasureT-loop
 μ-loop state₀ whole i₀ state i = 256 - i
 
 loop-holds : tie.Need-loop-holds Inv-loop μ-loop
+unfolding part
 loop-holds c = (search needs, refl)
 
 mul-wide-value : tie.Need-mul-wide-value Inv-loop μ-loop
@@ -46,14 +46,14 @@ loop-again c =
     let l = c .before .before .before .loop in
     let x = c .before .before .before .before .args in (
       search needs,
-      rw (c .wide-value .ensures) (put-turn (x .state .now) (x .whole .now) (l .state) memoryFrom 256 (l .i) (l .inv .1) (search needs)),
+      rw (c .wide-value .ensures) (put-first (x .state .now) (x .whole .now) (l .state) memoryFrom (l .i) (l .inv .1)),
     )
 
 returns : tie.Need-returns Inv-loop μ-loop
 returns c =
     let l = c .before .loop in
-    let x = c .before .before .args in
-    put-end (x .state .now) (x .whole .now) (l .state) memoryFrom 256 (l .i) (l .inv .1) (search needs)
+    let e : l .i ≡ 256 = search needs in
+    l .inv .1 ∙ ap (λ (k : ℕ). sets (c .before .before .args .state .now) memoryFrom (part 0 k (c .before .before .args .whole .now))) e
 
 pub put-memory-spec : {M : Type 1} → statement M
 put-memory-spec =
