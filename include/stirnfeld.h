@@ -29,7 +29,7 @@ extern "C" {
 /* How many places it has, and how many bytes of stack a call on it needs. */
 enum {
     STIRNFELD_STATE = 2048,
-    STIRNFELD_STACK = 131072
+    STIRNFELD_STACK = 65536
 };
 
 /* What stands at which place. Any place that is not named here holds 0, and so

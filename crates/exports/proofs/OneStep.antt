@@ -42,10 +42,12 @@ firsts c =
     []
 
 -- what a run leaves that took the step, or was stopped by its refusal
+abbrev leftIf : Bool → Stepped → Left
+leftIf took r =
+    pick took (left 1 accepted (r .machine) (written unwritten 0 (r .told))) (left 0 (refusalNumber (r .told .answer)) (r .machine) unwritten)
+
 abbrev leftOf : Stepped → Left
-leftOf r =
-    let n = refusalNumber (r .told .answer) in
-    pick (eqb n accepted) (left 1 accepted (r .machine) (written unwritten 0 (r .told))) (left 0 n (r .machine) unwritten)
+leftOf r = leftIf (eqb (refusalNumber (r .told .answer)) accepted) r
 
 module _ (m : Machine) (x : Step) where
   taken : runSound (m .dims) (alone x) (cachesOf m) unwritten ≡ leftOf (steppedOf (m .dims) (takeStep (m .dims) x (cachesOf m)))
@@ -58,9 +60,7 @@ module _ (m : Machine) (x : Step) where
       by : (b : Bool) → eqb n accepted ≡ b
           → stopped (m .dims) (alone x) 1
           (pick (not b) (0, carried (cachesOf m) unwritten) (1, turn (m .dims) (alone x) 0 (carried (cachesOf m) unwritten)))
-          ≡ pick b
-          (left 1 accepted (machineOf (m .dims) (takeStep (m .dims) x (cachesOf m) .after)) (written unwritten 0 (takeStep (m .dims) x (cachesOf m) .told)))
-          (left 0 n (machineOf (m .dims) (takeStep (m .dims) x (cachesOf m) .after)) unwritten)
+          ≡ leftIf b (steppedOf (m .dims) (takeStep (m .dims) x (cachesOf m)))
       by true h = refl
       by false h = rw (refused-stays (m .dims) x (cachesOf m) (eqb-false n accepted h))
 
@@ -85,13 +85,11 @@ module _ (s t : List ℕ) (x : Step) where
   abbrev n : ℕ
   n = refusalNumber (r .told .answer)
 
-  abbrev done : Bool → Left
-  done b = pick b (left 1 accepted (r .machine) (written unwritten 0 (r .told))) (left 0 n (r .machine) unwritten)
-
-  one-taken : asStep t (ranIn s (leftOf r .ran) (leftOf r .columns)) ≡ handedBy n (stepLent s t) (stepLent (arrayOf (r .machine)) (toldBy (r .told)))
+  one-taken : asStep t (ranIn s (leftOf r .ran) (leftOf r .columns))
+      ≡ handedBy n (stepLent s t) (stepLent (arrayOf (r .machine)) (toldBy (r .told)))
   one-taken = by (eqb n accepted) refl
     where
-      by : (b : Bool) → eqb n accepted ≡ b → asStep t (ranIn s (done b .ran) (done b .columns))
+      by : (b : Bool) → eqb n accepted ≡ b → asStep t (ranIn s (leftIf b r .ran) (leftIf b r .columns))
           ≡ handed n (unless b (stepLent s t) (stepLent (arrayOf (r .machine)) (toldBy (r .told))))
       by true h = rw (eqb-true n accepted h)
       by false h = rw h
