@@ -13,7 +13,7 @@ use Rattle.entry.specs.Refusals.{accepted, notSound, unless}
 use Rattle.entry.specs.Answer.{refusalNumber, refusedBy}
 use Rattle.rules.specs.declared.Machine.{Machine}
 use Rattle.rules.specs.declared.Stepped.{Stepped}
-use Rattle.rules.specs.State.{cachesOf, machineOf}
+use Rattle.rules.specs.State.{cachesOf}
 use Rattle.rules.specs.SoundTest.{soundOf}
 use Rattle.rules.specs.Step.{takeStep, stepped, steppedOf, stepOf}
 use Rattle.rules.specs.Run.{Steps, steps, Columns, columns, written, Left, left, columnsOk, carried, turn, stopped, runSound, runOf}

@@ -3,14 +3,16 @@
 
 mod array;
 mod copying;
-mod held;
 mod places;
 
+use crate::array::dims_of;
 use crate::array::held_ok;
 use crate::array::machine_of;
 use crate::array::put_machine;
+use crate::array::put_parts;
 use crate::copying::wide_number;
-use crate::held::run_held;
+use crate::places::ENTRIES_FROM;
+use crate::places::LINES_FROM;
 use crate::places::State;
 use entry::refusals::ACCEPTED;
 use entry::refusals::NOT_SOUND;
@@ -54,59 +56,8 @@ pub extern "C" fn stirnfeld_sound(state: &State) -> u8
     NOT_SOUND
 }
 
-// told becomes the answer's number, its value, and the six counts. The step is a run of one place: so the library has one call of the machine's
-// steps, and the compiler writes them out in the run's loop.
-#[no_mangle]
-pub extern "C" fn stirnfeld_step(
-    state: &mut State,
-    op: u8,
-    core: u8,
-    word: u32,
-    value: u32,
-    told: &mut [u32; 8],
-) -> u8
-    ensures { λ r. ⌜ handed r (stepLent (after state) (after told)) ≡ stepIn (before state) (step op core word value) (before told) ⌝ }
-{
-    let mut number = [0u8];
-    let mut result = [0u32];
-    let mut read = [0u32];
-    let mut rfo = [0u32];
-    let mut write = [0u32];
-    let mut t_read = [0u32];
-    let mut t_rfo = [0u32];
-    let mut busy = [0u32];
-    let h = run_held(
-        state,
-        &[op],
-        &[core],
-        &[word],
-        &[value],
-        &mut number,
-        &mut result,
-        &mut read,
-        &mut rfo,
-        &mut write,
-        &mut t_read,
-        &mut t_rfo,
-        &mut busy,
-    );
-    if h.refusal != ACCEPTED {
-        return h.refusal;
-    }
-    *told = [
-        wide_number(number[0]),
-        result[0],
-        read[0],
-        rfo[0],
-        write[0],
-        t_read[0],
-        t_rfo[0],
-        busy[0],
-    ];
-    ACCEPTED
-}
-
-// The number of steps that were taken goes into taken; where the whole run is refused, 0.
+// The number of steps that were taken goes into taken; where the whole run is refused, 0. The machine is nowhere by value: its parts are copied out
+// of the array, lent, and copied back.
 #[no_mangle]
 pub extern "C" fn stirnfeld_run(
     state: &mut State,
@@ -129,8 +80,21 @@ pub extern "C" fn stirnfeld_run(
         ⌜ handed r (runLent (after taken) (after state) (c .exit)) ≡
         runIn (before state) (lentSteps ops cores «used_words» values) (c .entry) ⌝ }
 {
-    let h = run_held(
-        state,
+    if !held_ok(state) {
+        *taken = 0;
+        return NOT_SOUND;
+    }
+    let d = dims_of(state);
+    let mut memory = copying::memory_of(state);
+    let mut lines = copying::copies_of(state, LINES_FROM);
+    let mut entries = copying::copies_of(state, ENTRIES_FROM);
+    let mut flags = copying::flags_of(state);
+    let h = runs::run_lent(
+        &mut memory,
+        &mut lines,
+        &mut entries,
+        &mut flags,
+        d,
         ops,
         cores,
         used_words,
@@ -145,7 +109,64 @@ pub extern "C" fn stirnfeld_run(
         busies,
     );
     *taken = h.taken;
+    if h.taken != 0 {
+        put_parts(state, &memory, &lines, &entries, &flags);
+    }
     h.refusal
+}
+
+// told becomes the answer's number, its value, and the six counts. The step is a run of one place: so the library has one call of the machine's
+// steps, and the compiler writes them out in the run's loop.
+#[no_mangle]
+pub extern "C" fn stirnfeld_step(
+    state: &mut State,
+    op: u8,
+    core: u8,
+    word: u32,
+    value: u32,
+    told: &mut [u32; 8],
+) -> u8
+    ensures { λ r. ⌜ handed r (stepLent (after state) (after told)) ≡ stepIn (before state) (step op core word value) (before told) ⌝ }
+{
+    let mut number = [0u8];
+    let mut result = [0u32];
+    let mut read = [0u32];
+    let mut rfo = [0u32];
+    let mut write = [0u32];
+    let mut t_read = [0u32];
+    let mut t_rfo = [0u32];
+    let mut busy = [0u32];
+    let mut taken: usize = 0;
+    let refusal = stirnfeld_run(
+        state,
+        &[op],
+        &[core],
+        &[word],
+        &[value],
+        &mut number,
+        &mut result,
+        &mut read,
+        &mut rfo,
+        &mut write,
+        &mut t_read,
+        &mut t_rfo,
+        &mut busy,
+        &mut taken,
+    );
+    if refusal != ACCEPTED {
+        return refusal;
+    }
+    *told = [
+        wide_number(number[0]),
+        result[0],
+        read[0],
+        rfo[0],
+        write[0],
+        t_read[0],
+        t_rfo[0],
+        busy[0],
+    ];
+    ACCEPTED
 }
 
 // values becomes every word's settled value, and 0 past the words.
