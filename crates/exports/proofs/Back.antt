@@ -4,10 +4,10 @@ use mathlib.Core.Bool.{true}
 use mathlib.Core.List.{List, [], _∷_}
 use Prim.Native.Nat.{ℕ, zero, suc, _+_, _-_, _<_, _≤_}
 use native.Mathlib.Omega.{arith}
-use native.Mathlib.Nat.{add-zero, add-suc, suc-add, zero-add}
+use native.Mathlib.Nat.{zero-add}
 use native.Mathlib.Decide.{decLt}
-use lib.ListN.{length, getD, set, length-set, length-replicate, getD-replicate}
-use lib.Seq.{sets, length-sets, ext-getD, getD-set-same, getD-set-other}
+use lib.ListN.{length, getD, length-replicate, getD-replicate}
+use lib.Seq.{sets, length-sets, ext-getD}
 use borrow.Author.Tests.{eq-eqb}
 use Rattle.laws.specs.Choice.{both-true}
 use Rattle.rules.specs.declared.Machine.{Machine}
@@ -15,29 +15,10 @@ use Rattle.rules.specs.State.{Caches, caches, cachesOf, machineOf, trueFlag}
 use Rattle.rules.specs.Sound.{Lengths}
 use Rattle.exports.specs.Array.{flagsFrom, flagsEnd, memoryFrom, linesFrom, entriesFrom, entriesEnd, stateEnd}
 use Rattle.exports.specs.Array.{part, dimsIn, machineIn, withParts, blank, arrayOf, noneAbove, mostValue, heldOk}
-use Rattle.exports.proofs.Copied.{part-length, part-at, part-whole}
+use Rattle.exports.proofs.Copied.{part-length, part-at, part-whole, sets-before, sets-after, sets-in}
 use Rattle.exports.proofs.Tested.{none-above-at, none-above-of, held}
 
--- a place before what is written, after it, and in it
-pub sets-before : (s l : List ℕ) (at k : ℕ) → k < at → getD (sets s at l) k 0 ≡ getD s k 0
-sets-before s [] at k h = refl
-sets-before s (x ∷ l) at k h =
-    sets-before (set s at x) l (suc at) k (omega arith) ∙ getD-set-other s at k x 0 (λ e. omega arith)
-
-pub sets-after : (s l : List ℕ) (at k : ℕ) → at + length l ≤ k → getD (sets s at l) k 0 ≡ getD s k 0
-sets-after s [] at k h = refl
-sets-after s (x ∷ l) at k h =
-    sets-after (set s at x) l (suc at) k (omega arith) ∙ getD-set-other s at k x 0 (λ e. omega arith)
-
-pub sets-in : (s l : List ℕ) (at i : ℕ) → i < length l → at + length l ≤ length s → getD (sets s at l) (at + i) 0 ≡ getD l i 0
-sets-in s [] at i h k = absurd (omega arith)
-sets-in s (x ∷ l) at zero h k =
-    rw add-zero (sets-before (set s at x) l (suc at) at (omega arith) ∙ getD-set-same s at x 0 (omega arith))
-sets-in s (x ∷ l) at (suc i) h k =
-    ap (λ (j : ℕ). getD (sets (set s at x) (suc at) l) j 0) (add-suc at i ∙ sym (suc-add at i)) ∙
-    sets-in (set s at x) l (suc at) i (omega arith) (omega (arith, length-set s at x))
-
--- so is a part that was written, and one that stands before it
+-- a part that was written, and one that stands before it
 part-in : (s l : List ℕ) (at n : ℕ) → length l ≡ n → at + n ≤ length s → part at n (sets s at l) ≡ l
 part-in s l at n e h =
     ext-getD 0 (part at n (sets s at l)) l (part-length at n (sets s at l) ∙ sym e)

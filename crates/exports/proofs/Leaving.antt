@@ -7,12 +7,12 @@ use borrow.Author.Tests.{eq-eqb, ne-eqb}
 use Rattle.entry.specs.Refusals.{accepted}
 use Rattle.rules.specs.declared.Dims.{Dims}
 use Rattle.rules.specs.declared.Made.{Made}
-use Rattle.rules.specs.State.{Caches, caches, machineOf}
+use Rattle.rules.specs.State.{Caches, machineOf}
 use Rattle.rules.specs.Making.{makeOf}
 use Rattle.rules.specs.Run.{Steps, Columns, Carried, Left, runOf}
 use Rattle.runs.specs.declared.running.Halt.{Halt}
 use Rattle.runs.specs.Halting.{halted}
-use Rattle.exports.specs.Array.{memoryFrom, linesFrom, entriesFrom, flagsFrom, part, dimsIn, machineIn, withParts, arrayOf, heldOk}
+use Rattle.exports.specs.Array.{dimsIn, machineIn, withParts, arrayOf, heldOk}
 use Rattle.exports.specs.Handed.{handed, makeIn, runLent, ranIn, runIn}
 use Rattle.exports.proofs.Back.{parts-back}
 
@@ -24,12 +24,6 @@ module _ (d : Dims) (initial s : List ℕ) (m : Made) (is : m ≡ makeOf d initi
   pub puts-made : m .refusal ≡ accepted → (s' : List ℕ) → s' ≡ arrayOf (m .machine) → handed accepted s' ≡ makeIn d initial s
   unfolding makeIn
   puts-made h s' e = rw (← is, h, e)
-
--- the machine whose parts were copied out of an array
-pub machine-is : (s : List ℕ) (d : Dims) (m l e f : List ℕ) → d ≡ dimsIn s → m ≡ part memoryFrom 256 s → l ≡ part linesFrom 512 s →
-    e ≡ part entriesFrom 512 s → f ≡ part flagsFrom 16 s → machineOf d (caches m l e f) ≡ machineIn s
-unfolding machineIn
-machine-is s d m l e f ed em el ee ef = rw (ed, em, el, ee, ef)
 
 -- of an array that holds a machine: where the run of it stopped, and what the run left
 module _ (s : List ℕ) (held : heldOk s ≡ true) (x : Steps) (c0 : Columns) (d : Dims) (ed : d ≡ dimsIn s)

@@ -1,12 +1,10 @@
 -- No second answer satisfies a contract of this crate, the final contents of all that is lent included. Each is stated on the contract's own
 -- reading, `Post`. Assumes nothing.
 use mathlib.Core.Path.{_∙_, sym}
-use mathlib.Core.List.{List}
-use Prim.Native.Nat.{ℕ}
-use denote.Ref.{RefT, now}
+use denote.Ref.{now}
 use Rattle.laws.specs.OneAnswer.{OneAnswer}
-use Rattle.rules.specs.Run.{columns}
-use Rattle.exports.specs.Handed.{handed, stepLent, RunLent, runLent}
+use Rattle.runs.proofs.Unique.{seenColumns}
+use Rattle.exports.specs.Handed.{handed, stepLent, runLent}
 use Rattle.exports.proofs.stirnfeld_make.Reads as make-reads
 use Rattle.exports.proofs.stirnfeld_sound.Reads as sound-reads
 use Rattle.exports.proofs.stirnfeld_step.Reads as step-reads
@@ -22,17 +20,8 @@ sound-unique κs a r r' s s' p q = p ∙ sym q
 pub step-unique : OneAnswer step-reads.Post (λ κs r s. handed r (stepLent (now (s .0)) (now (s .1 .1 .1 .1 .1 .0))))
 step-unique κs a r r' s s' p q = p ∙ sym q
 
--- what a run's parameters hold at exit: the array, the columns of steps and of answers, and how many steps were taken
-abbrev pub RunParameters : Type 0 → Type 0
-RunParameters R =
-    let L = RefT (List ℕ) in
-    L × (L × (L × (L × (L × (L × (L × (L × (L × (L × (L × (L × (L × (RefT ℕ × R)))))))))))))
-
-abbrev pub seenRun : {R : Type 0} → RunParameters R → RunLent
-seenRun (state, (ops, (cores, (words, (values, (a, (v, (r, (o, (w, (s, (t, (b, (n, rest)))))))))))))) =
-    runLent (now n) (now state) (columns (now a) (now v) (now r) (now o) (now w) (now s) (now t) (now b))
-
-pub run-unique : OneAnswer run-reads.Post (λ κs r s. handed r (seenRun s))
+pub run-unique : OneAnswer run-reads.Post
+    (λ κs r s. handed r (runLent (now (s .1 .1 .1 .1 .1 .1 .1 .1 .1 .1 .1 .1 .1 .0)) (now (s .0)) (seenColumns (s .1))))
 run-unique κs a r r' s s' p q = p ∙ sym q
 
 pub settle-unique : OneAnswer settle-reads.Post (λ κs r s. handed r (now (s .1 .0)))

@@ -40,15 +40,15 @@ unfoldable pub part : ℕ → ℕ → List ℕ → List ℕ
 part from zero s = []
 part from (suc n) s = getD s from 0 ∷ part (suc from) n s
 
--- the machine that an array holds
 abbrev pub dimsIn : List ℕ → Dims
 dimsIn s = dims (getD s 0 0) (getD s 1 0) (getD s 2 0) (getD s 3 0)
 
+-- the machine that an array holds
 unfoldable pub machineIn : List ℕ → Machine
 machineIn s =
     machineOf (dimsIn s) (caches (part memoryFrom 256 s) (part linesFrom 512 s) (part entriesFrom 512 s) (part flagsFrom 16 s))
 
--- an array with a machine's parts put into it
+-- an array with a machine's parts put into it, each into the places that it has there
 unfoldable pub withParts : List ℕ → Caches → List ℕ
 withParts s c =
     let flagged = sets s flagsFrom (part 0 16 (c .flags)) in

@@ -108,6 +108,7 @@ pub(crate) fn put_machine(state: &mut State, m: Machine)
     state[1] = d.words as u64;
     state[2] = d.lines as u64;
     state[3] = d.entries as u64;
+    // two fields of one machine are not lent at once
     let memory = m.memory;
     let lines = m.lines;
     let entries = m.entries;

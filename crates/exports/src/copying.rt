@@ -8,7 +8,7 @@ use rules::Flags;
 use rules::Memory;
 ghost use mathlib.Core.Path.{_≡_};
 ghost use mathlib.Core.Bool.{true};
-ghost use Prim.Native.Nat.{_+_, _-_, _≤_};
+ghost use Prim.Native.Nat.{_+_, _≤_};
 ghost use lib.Seq.{sets};
 ghost use Rattle.rules.specs.State.{trueFlag};
 ghost use Rattle.rules.specs.Lent.{before, after};
@@ -105,22 +105,22 @@ pub(crate) fn put_flags(state: &mut State, whole: &Flags)
     }
 }
 
-fn put_places(state: &mut State, from: usize, whole: &Copies, at: usize, to: usize)
-    requires { ⌜ (from + 512 ≤ stateEnd) × (at ≤ to) × (to ≤ 512) ⌝ }
-    ensures { λ r. ⌜ after state ≡ sets (before state) (from + at) (part at (to - at) (before whole)) ⌝ }
+fn put_places(state: &mut State, to: usize, whole: &Copies, from: usize, n: usize)
+    requires { ⌜ (to + n ≤ stateEnd) × (from + n ≤ 512) ⌝ }
+    ensures { λ r. ⌜ after state ≡ sets (before state) to (part from n (before whole)) ⌝ }
 {
-    let mut i = at;
-    while i < to {
-        state[from + i] = whole[i];
+    let mut i: usize = 0;
+    while i < n {
+        state[to + i] = whole[from + i];
         i += 1;
     }
 }
 
-// By halves: from 4,096 bytes on, C libraries copy by an instruction that an emulator takes byte by byte.
-pub(crate) fn put_copies(state: &mut State, from: usize, whole: &Copies)
-    requires { ⌜ from + 512 ≤ stateEnd ⌝ }
-    ensures { λ r. ⌜ after state ≡ sets (before state) from (part 0 512 (before whole)) ⌝ }
+// By halves: a long copy the C library makes by an instruction that an emulator takes byte by byte.
+pub(crate) fn put_copies(state: &mut State, to: usize, whole: &Copies)
+    requires { ⌜ to + 512 ≤ stateEnd ⌝ }
+    ensures { λ r. ⌜ after state ≡ sets (before state) to (part 0 512 (before whole)) ⌝ }
 {
-    put_places(state, from, whole, 0, 256);
-    put_places(state, from, whole, 256, 512);
+    put_places(state, to, whole, 0, 256);
+    put_places(state, to + 256, whole, 256, 256);
 }

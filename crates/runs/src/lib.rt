@@ -53,7 +53,7 @@ fn columns_ok(
     also(j, busy.len(), n)
 }
 
-// A run that is refused, or that stops, leaves the state that it reached.
+// Refused by 9 or 10 it leaves all as it was; stopped by a step, what the steps before that reached.
 pub fn run_lent(
     memory: &mut Memory,
     lines: &mut Copies,

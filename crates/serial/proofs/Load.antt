@@ -58,8 +58,8 @@ module _ {d : Dims} {s : Caches} (F : Fit d s) (p : ℕ) (lp : p < d .processors
   ev : Evicted d p w s s₁
   ev = evicts F p lp w gone
 
-  bus : Served d p s₁ s₂ × Plainly reading (d .processors) p w (seen d s₁) (seen d s₂)
-  bus = plain-request-served (ev .fit) reading READ is-READ p w lp
+  request : Served d p s₁ s₂ × Plainly reading (d .processors) p w (seen d s₁) (seen d s₂)
+  request = plain-request-served (ev .fit) reading READ is-READ p w lp
 
   pub load-miss-fetched : Fit d (Load.loadMiss d p w s .after)
       × Fetched (d .processors) p w (wordAt s₂ w) (seen d s) (seen d (Load.loadMiss d p w s .after))
@@ -68,9 +68,9 @@ module _ {d : Dims} {s : Caches} (F : Fit d s) (p : ℕ) (lp : p < d .processors
     lined-fit F₂ p lp w h refl M to rt ft refl old free,
     record {
       gap = seen d s₁;
-      bus = seen d s₂;
+      requested = seen d s₂;
       frees = ev .freed;
-      asks = bus .1;
+      asks = request .1;
       at = lined-at F₂ p lp w h refl M to rt ft refl old free;
       gives = refl;
       here = lined-regular F₂ p lp w h refl M to rt ft refl old free refl;
@@ -79,7 +79,7 @@ module _ {d : Dims} {s : Caches} (F : Fit d s) (p : ℕ) (lp : p < d .processors
   )
     where
       F₂ : Fit d s₂
-      F₂ = bus .0 .fit
+      F₂ = request .0 .fit
 
       to : Entry
       to = entry VALID INVALID w (wordAt s₂ w)
@@ -94,12 +94,12 @@ module _ {d : Dims} {s : Caches} (F : Fit d s) (p : ℕ) (lp : p < d .processors
       M = memory-same (F₂ .frame) w
 
       old : lineIs w (decoded d s₂ .line p h)
-      old = rw (own-line (F .frame .size) p (bus .0 .own) h ∙ ev .blank-now) tt
+      old = rw (own-line (F .frame .size) p (request .0 .own) h ∙ ev .blank-now) tt
 
       free : (i : ℕ) → i < d .entries → mainOn w (decoded d s₂ .slot p i) ≡ false
       free =
           look-none (d .entries) (home d) (decoded d s₂ .slot p) (decoded d s₂ .line p) w
-          (own-copy (F .frame .size) p (bus .0 .own) w ∙ freed-none (ev .freed) w gone) .1
+          (own-copy (F .frame .size) p (request .0 .own) w ∙ freed-none (ev .freed) w gone) .1
 
 -- after a rollback, p's copy is what its backup was
 unroll-normal : (k : Copy) {s : LineState} {d : ℕ} → isTentative k ≡ true → rolledCopy k ≡ normal s d

@@ -167,7 +167,7 @@ module _ {d : Dims} (p : ℕ) (lp : p < d .processors) (w : ℕ) (lw : w < d .wo
     through-does n x = record {
       fit = lined-fit F₂ p lp w h refl M (entry RESERVED INVALID w v) r f refl old₂ free₂;
       step = store-through U N
-          (has-regular F p lp w line refl o ∙ ap (λ (c : ℕ). regular (stateOf c) (line .«data»)) (eqb-true (line .state) VALID x)) (bus .1)
+          (has-regular F p lp w line refl o ∙ ap (λ (c : ℕ). regular (stateOf c) (line .«data»)) (eqb-true (line .state) VALID x)) (request .1)
           (lined-at F₂ p lp w h refl M (entry RESERVED INVALID w v) r f refl old₂ free₂)
           (lined-regular F₂ p lp w h refl M (entry RESERVED INVALID w v) r f refl old₂ free₂ refl)
           (getD-set-same (s₂ .memory) w v 0 (omega (arith, F₂ .frame .memory .long, F .frame .size .words)));
@@ -176,11 +176,11 @@ module _ {d : Dims} (p : ℕ) (lp : p < d .processors) (w : ℕ) (lw : w < d .wo
         s₂ : Caches
         s₂ = plainRequest d p w WRITE s
 
-        bus : Served d p s s₂ × Plainly owning (d .processors) p w (seen d s) (seen d s₂)
-        bus = plain-request-served F owning WRITE is-WRITE p w lp
+        request : Served d p s s₂ × Plainly owning (d .processors) p w (seen d s) (seen d s₂)
+        request = plain-request-served F owning WRITE is-WRITE p w lp
 
         F₂ : Fit d s₂
-        F₂ = bus .0 .fit
+        F₂ = request .0 .fit
 
         M : Memory d s₂ w (set (s₂ .memory) w v)
         M = memory-set (F₂ .frame) w lw v lv
@@ -192,7 +192,7 @@ module _ {d : Dims} (p : ℕ) (lp : p < d .processors) (w : ℕ) (lw : w < d .wo
         f = ft RESERVED (λ z. omega arith)
 
         full₂ : decoded d s₂ .line p (home d w) ≡ filled (stateOf (line .state)) w (line .«data»)
-        full₂ = own-line (F .frame .size) p (bus .0 .own) (home d w) ∙ full
+        full₂ = own-line (F .frame .size) p (request .0 .own) (home d w) ∙ full
 
         old₂ : lineIs w (decoded d s₂ .line p (home d w))
         old₂ = rw full₂ refl
@@ -208,7 +208,7 @@ module _ {d : Dims} (p : ℕ) (lp : p < d .processors) (w : ℕ) (lw : w < d .wo
   unfolding Store.storeMiss
   miss-does n gone = record {
     fit = lined-fit F₂ p lp w h refl M (entry DIRTY INVALID w v) r f refl old free;
-    step = store-miss U N gone (ev .freed) (bus .1) (lined-at F₂ p lp w h refl M (entry DIRTY INVALID w v) r f refl old free)
+    step = store-miss U N gone (ev .freed) (request .1) (lined-at F₂ p lp w h refl M (entry DIRTY INVALID w v) r f refl old free)
         (lined-regular F₂ p lp w h refl M (entry DIRTY INVALID w v) r f refl old free refl) refl;
   }
     where
@@ -221,11 +221,11 @@ module _ {d : Dims} (p : ℕ) (lp : p < d .processors) (w : ℕ) (lw : w < d .wo
       ev : Evicted d p w s s₂
       ev = evicts F p lp w gone
 
-      bus : Served d p s₂ s₃ × Plainly owning (d .processors) p w (seen d s₂) (seen d s₃)
-      bus = plain-request-served (ev .fit) owning RFO is-RFO p w lp
+      request : Served d p s₂ s₃ × Plainly owning (d .processors) p w (seen d s₂) (seen d s₃)
+      request = plain-request-served (ev .fit) owning RFO is-RFO p w lp
 
       F₂ : Fit d s₃
-      F₂ = bus .0 .fit
+      F₂ = request .0 .fit
 
       M : Memory d s₃ w (s₃ .memory)
       M = memory-same (F₂ .frame) w
@@ -237,12 +237,12 @@ module _ {d : Dims} (p : ℕ) (lp : p < d .processors) (w : ℕ) (lw : w < d .wo
       f = ft DIRTY (λ z. omega arith)
 
       old : lineIs w (decoded d s₃ .line p (home d w))
-      old = rw (own-line (F .frame .size) p (bus .0 .own) (home d w) ∙ ev .blank-now) tt
+      old = rw (own-line (F .frame .size) p (request .0 .own) (home d w) ∙ ev .blank-now) tt
 
       free : (i : ℕ) → i < d .entries → mainOn w (decoded d s₃ .slot p i) ≡ false
       free =
           look-none (d .entries) (home d) (decoded d s₃ .slot p) (decoded d s₃ .line p) w
-          (own-copy (F .frame .size) p (bus .0 .own) w ∙ freed-none (ev .freed) w gone) .1
+          (own-copy (F .frame .size) p (request .0 .own) w ∙ freed-none (ev .freed) w gone) .1
 
   line-does : (n : ℕ) → isNormal (seen d s .copy w p) ≡ false → isTentative (seen d s .copy w p) ≡ false
       → Does d S (byStore p w v) (Store.storeLine d p w v (counted n s))

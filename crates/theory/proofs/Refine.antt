@@ -70,7 +70,7 @@ shown s = showing s done
 fetched-run : {S S′ : View} (n p w x : ℕ) → Far n p w S → S .copy w p ≡ none → Protocol.Fetched n p w x S S′ → Run S (load p w x ∷ []) S′
 fetched-run {S} {S′} n p w x f e g =
     let s = by-plain Protocol.reading n p w (far-freed f (g .frees)) (g .asks) in
-    let i : g .bus .copy w p ≡ none = s .phase .keeps .copy-kept ∙ freed-none (g .frees) w e in
+    let i : g .requested .copy w p ≡ none = s .phase .keeps .copy-kept ∙ freed-none (g .frees) w e in
     quietly (freed-silent p (g .frees))
     (run-then (s .phase .runs)
     (quietly (move p w (g .at) refl (g .memory-same) i (g .here ∙ ap (regular valid) (sym (g .gives))) (fill-regular (s .gives)))

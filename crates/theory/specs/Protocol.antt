@@ -99,13 +99,13 @@ pub record Granted (k : Kind) (n p w : ℕ) (S S′ : View) : Type 0 where
 -- LOAD's miss
 pub record Fetched (n p w x : ℕ) (S S′ : View) : Type 0 where
   pub gap : View
-  pub bus : View
+  pub requested : View
   pub frees : Freed p S gap
-  pub asks : Plainly reading n p w gap bus
-  pub at : OnlyWord p w bus S′
-  pub gives : bus .memory w ≡ x
+  pub asks : Plainly reading n p w gap requested
+  pub at : OnlyWord p w requested S′
+  pub gives : requested .memory w ≡ x
   pub here : S′ .copy w p ≡ regular valid x
-  pub memory-same : S′ .memory w ≡ bus .memory w
+  pub memory-same : S′ .memory w ≡ requested .memory w
 
 -- what LOAD answers from the processor's own copy
 abbrev pub hits : Copy → ℕ → Type 0

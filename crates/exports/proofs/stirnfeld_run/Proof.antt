@@ -2,7 +2,8 @@ use mathlib.Core.Path.{sym, _∙_}
 use borrow.Author.Tests.{not-true, not-false}
 use Rattle.exports.specs.Handed.{runIn}
 use Rattle.exports.proofs.Tested.{held}
-use Rattle.exports.proofs.Leaving.{machine-is, ran-some, ran-none}
+use Rattle.exports.proofs.Copied.{machine-is}
+use Rattle.exports.proofs.Leaving.{ran-some, ran-none}
 use borrow.Author.Needs.{needs}
 use Rattle.exports.proofs.stirnfeld_run.Statement.{statement}
 use Rattle.exports.proofs.stirnfeld_run.Tie as tie

@@ -1,4 +1,4 @@
-use Rattle.exports.specs.Array.{machineIn}
+use Rattle.exports.proofs.Copied.{machine-is}
 use Rattle.exports.proofs.Tested.{held}
 use borrow.Author.Needs.{needs}
 use Rattle.exports.proofs.array.machine_of.Statement.{statement}
@@ -22,18 +22,12 @@ dims-of-requires : tie.Need-dims-of-requires
 dims-of-requires c κs = search needs
 
 returns : tie.Need-returns
-unfolding machineIn
 returns c =
     let c1 = c .before .before in
     let c2 = c1 .before in
     let c3 = c2 .before in
-    rw (
-      c3 .memory-of .ensures,
-      c2 .copies-of .ensures,
-      c1 .copies-of2 .ensures,
-      c .before .flags-of .ensures,
-      c .dims-of .ensures,
-    )
+    machine-is _ _ _ _ _ _ (c .dims-of .ensures) (c3 .memory-of .ensures) (c2 .copies-of .ensures) (c1 .copies-of2 .ensures)
+    (c .before .flags-of .ensures)
 
 pub machine-of-spec : {M : Type 1} → statement M
 machine-of-spec =

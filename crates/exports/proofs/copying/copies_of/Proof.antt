@@ -1,6 +1,6 @@
-use mathlib.Core.Path.{_≡_, refl, _∙_}
+use mathlib.Core.Path.{_≡_, refl}
 use Prim.Native.Nat.{_≤_, _-_}
-use lib.ListN.{length, take, length-set}
+use lib.Seq.{sets}
 use borrow.Author.Needs.{needs}
 use Rattle.exports.specs.Array.{part}
 use Rattle.exports.proofs.Copied.{read-turn, read-end}
@@ -8,13 +8,14 @@ use Rattle.exports.proofs.copying.copies_of.Statement.{statement}
 use Rattle.exports.proofs.copying.copies_of.Tie as tie
 
 abbrev Inv-loop : tie.InvT-loop
-Inv-loop state from whole₀ i₀ whole i = (i ≤ 512) × (length whole ≡ 512) × (take i whole ≡ take i (part from 512 state))
+Inv-loop state from whole₀ i₀ whole i = (i ≤ 512) × (whole ≡ sets whole₀ 0 (part from i state))
 
 abbrev μ-loop : tie.MeasureT-loop
 μ-loop state from whole₀ i₀ whole i = 512 - i
 
 loop-holds : tie.Need-loop-holds Inv-loop μ-loop
-loop-holds c = (search needs, refl, refl)
+unfolding part
+loop-holds c = (search needs, refl)
 
 add-whole : tie.Need-add-whole Inv-loop μ-loop
 add-whole c = search needs
@@ -42,15 +43,14 @@ loop-again c =
     let l = c .before .before .loop in
     let x = c .before .before .before .args in (
       search needs,
-      length-set (l .whole) _ _ ∙ l .inv .1,
-      read-turn (x .state .now) (l .whole) (x .from) 512 (l .i) (l .inv .2) (search needs) (search needs),
+      read-turn _ (x .state .now) (l .whole) (x .from) (l .i) (l .inv .1),
     )
 
 returns : tie.Need-returns Inv-loop μ-loop
 returns c =
     let l = c .before .loop in
     let x = c .before .before .args in
-    read-end (x .state .now) (l .whole) (x .from) 512 (l .i) (l .inv .2) (search needs) (search needs)
+    read-end _ (x .state .now) (l .whole) (x .from) (l .i) 512 (l .inv .1) (search needs) refl
 
 pub copies-of-spec : {M : Type 1} → statement M
 copies-of-spec =

@@ -1,6 +1,6 @@
-use mathlib.Core.Path.{_≡_, refl, _∙_}
+use mathlib.Core.Path.{_≡_, refl}
 use Prim.Native.Nat.{_≤_, _-_}
-use lib.ListN.{length, take, length-set}
+use lib.Seq.{sets}
 use borrow.Author.Needs.{needs}
 use Rattle.exports.specs.Array.{flagsFrom, flagsEnd, part}
 use Rattle.exports.proofs.Tested.{none-above-at}
@@ -10,13 +10,14 @@ use Rattle.exports.proofs.copying.flags_of.Statement.{statement}
 use Rattle.exports.proofs.copying.flags_of.Tie as tie
 
 abbrev Inv-loop : tie.InvT-loop
-Inv-loop state whole₀ i₀ whole i = (i ≤ 16) × (length whole ≡ 16) × (take i whole ≡ take i (part flagsFrom 16 state))
+Inv-loop state whole₀ i₀ whole i = (i ≤ 16) × (whole ≡ sets whole₀ 0 (part flagsFrom i state))
 
 abbrev μ-loop : tie.MeasureT-loop
 μ-loop state whole₀ i₀ whole i = 16 - i
 
 loop-holds : tie.Need-loop-holds Inv-loop μ-loop
-loop-holds c = (search needs, refl, refl)
+unfolding part
+loop-holds c = (search needs, refl)
 
 add-narrow-flag : tie.Need-add-narrow-flag Inv-loop μ-loop
 add-narrow-flag c = search needs
@@ -46,16 +47,15 @@ loop-again c =
     let l = c .before .before .before .loop in
     let s = c .before .before .before .before .args .state .now in (
       search needs,
-      length-set (l .whole) _ _ ∙ l .inv .1,
       rw (c .narrow-flag .ensures)
-          (read-turn s (l .whole) flagsFrom 16 (l .i) (l .inv .2) (search needs) (search needs)),
+          (read-turn _ s (l .whole) flagsFrom (l .i) (l .inv .1)),
     )
 
 returns : tie.Need-returns Inv-loop μ-loop
 returns c =
     let l = c .before .loop in
     let x = c .before .before .args in
-    read-end (x .state .now) (l .whole) flagsFrom 16 (l .i) (l .inv .2) (search needs) (search needs)
+    read-end _ (x .state .now) (l .whole) flagsFrom (l .i) 16 (l .inv .1) (search needs) refl
 
 pub flags-of-spec : {M : Type 1} → statement M
 flags-of-spec =

@@ -1,20 +1,24 @@
-use mathlib.Core.Path.{_≡_, _∙_, ap}
-use Prim.Native.Nat.{ℕ, _+_, _-_, _≤_}
+use mathlib.Core.Path.{_≡_, refl, _∙_, ap}
+use Prim.Native.Nat.{ℕ, _≤_, _-_}
 use lib.Seq.{sets}
 use borrow.Author.Needs.{needs}
 use Rattle.exports.specs.Array.{part}
-use Rattle.exports.proofs.Copied.{put-none, put-place}
+use Rattle.exports.proofs.Copied.{put-turn}
 use Rattle.exports.proofs.copying.put_places.Statement.{statement}
 use Rattle.exports.proofs.copying.put_places.Tie as tie
 
 abbrev Inv-loop : tie.InvT-loop
-Inv-loop state₀ from whole at to i₀ state i = (at ≤ i) × (i ≤ to) × (state ≡ sets state₀ (from + at) (part at (i - at) whole))
+Inv-loop state₀ to whole from n i₀ state i = (i ≤ n) × (state ≡ sets state₀ to (part from i whole))
 
 abbrev μ-loop : tie.MeasureT-loop
-μ-loop state₀ from whole at to i₀ state i = to - i
+μ-loop state₀ to whole from n i₀ state i = n - i
 
 loop-holds : tie.Need-loop-holds Inv-loop μ-loop
-loop-holds c = let x = c .args in (search needs, search needs, put-none (x .state .now) (x .whole .now) (x .from) (x .at))
+unfolding part
+loop-holds c = (search needs, refl)
+
+add-state : tie.Need-add-state Inv-loop μ-loop
+add-state c = search needs
 
 mul-state : tie.Need-mul-state Inv-loop μ-loop
 mul-state c = search needs
@@ -22,8 +26,8 @@ mul-state c = search needs
 element-copy-out-state : tie.Need-element-copy-out-state Inv-loop μ-loop
 element-copy-out-state c = search needs
 
-add-state : tie.Need-add-state Inv-loop μ-loop
-add-state c = search needs
+add-state-2 : tie.Need-add-state-2 Inv-loop μ-loop
+add-state-2 c = search needs
 
 mul-state-2 : tie.Need-mul-state-2 Inv-loop μ-loop
 mul-state-2 c = search needs
@@ -40,18 +44,15 @@ loop-less c = search needs
 loop-again : tie.Need-loop-again Inv-loop μ-loop
 loop-again c =
     let l = c .before .before .loop in
-    let x = c .before .before .before .args in (
-      search needs,
-      search needs,
-      put-place (x .state .now) (x .whole .now) (l .state) (x .from) (x .at) (l .i) (l .inv .0) (l .inv .2),
-    )
+    let x = c .before .before .before .args in
+    (search needs, put-turn (x .state .now) (x .whole .now) (l .state) (x .to) (x .from) (l .i) (l .inv .1))
 
 returns : tie.Need-returns Inv-loop μ-loop
 returns c =
     let l = c .before .loop in
     let x = c .before .before .args in
-    let e : l .i ≡ x .to = search needs in
-    l .inv .2 ∙ ap (λ (k : ℕ). sets (x .state .now) (x .from + x .at) (part (x .at) (k - x .at) (x .whole .now))) e
+    let e : l .i ≡ x .n = search needs in
+    l .inv .1 ∙ ap (λ (k : ℕ). sets (x .state .now) (x .to) (part (x .from) k (x .whole .now))) e
 
 pub put-places-spec : {M : Type 1} → statement M
 put-places-spec =
@@ -60,9 +61,10 @@ put-places-spec =
     Inv-loop
     μ-loop
     loop-holds
+    add-state
     mul-state
     element-copy-out-state
-    add-state
+    add-state-2
     mul-state-2
     element-write-state
     add-i
