@@ -1,5 +1,7 @@
 // One processor's caches, on the lent arrays.
 
+#![tactic(auto)]
+
 mod places;
 
 ghost use Rattle.std.specs.Prelude.{◌≡◌, ◌≢◌, false, ℕ, ◌<◌};
@@ -10,14 +12,13 @@ ghost use Rattle.rules.specs.Own.{home, holds, has_entry, find_entry, is_free, l
 ghost use Rattle.rules.specs.Rollback.{rolled_entries, status_down, committed_entries};
 ghost use Rattle.rules.specs.Snoop.{written_back, writes};
 ghost use Rattle.caches.specs.Own.{own_entry};
-ghost use Rattle.rules.specs.Lent.{before, after};
 
 use entry::Entry;
 use entry::numbers::{BACKUP, DIRTY, INVALID, NORMAL, TENTATIVE};
 use rules::{Copies, Dims, Flags, Memory, place};
 
 // Whether it is a tentative entry; its place is the number of entries where there is none.
-#[derive(Drop)]
+#[derive(Clone, Copy)]
 pub struct Own {
     pub tentative: bool,
     pub at: usize,
@@ -45,7 +46,7 @@ pub fn holds(e: Entry, word: u8) -> bool
 fn find_from(entries: &Copies, p: usize, n: usize, from: usize, tag: u8, word: u8) -> usize
     requires tag_nonzero { tag ≢ INVALID }
     requires by_index { (k : ℕ) → k < from → has_entry entries.now p tag word k ≡ false }
-    ensures { result ≡ find_entry (before entries) p n tag word }
+    ensures { result ≡ find_entry entries.now p n tag word }
 {
     let m = places::reach(n);
     if from >= m {
@@ -71,19 +72,19 @@ fn find_from(entries: &Copies, p: usize, n: usize, from: usize, tag: u8, word: u
 }
 
 pub fn find_tentative(entries: &Copies, p: usize, n: usize, word: u8) -> usize
-    ensures { result ≡ find_entry (before entries) p n TENTATIVE word }
+    ensures { result ≡ find_entry entries.now p n TENTATIVE word }
 {
     find_from(entries, p, n, 0, TENTATIVE, word)
 }
 
 pub fn find_normal(entries: &Copies, p: usize, n: usize, word: u8) -> usize
-    ensures { result ≡ find_entry (before entries) p n NORMAL word }
+    ensures { result ≡ find_entry entries.now p n NORMAL word }
 {
     find_from(entries, p, n, 0, NORMAL, word)
 }
 
 pub fn live_entry(entries: &Copies, p: usize, n: usize, word: u8) -> usize
-    ensures { result ≡ live_entry (before entries) p n word }
+    ensures { result ≡ live_entry entries.now p n word }
 {
     let m = places::reach(n);
     let base = p % 8 * 64;
@@ -108,7 +109,7 @@ pub fn live_entry(entries: &Copies, p: usize, n: usize, word: u8) -> usize
 // A processor's own entry of a word: the tentative one, else the NORMAL one. Behind a NORMAL entry there is no tentative one in a sound
 // state.
 pub fn own_entry(entries: &Copies, p: usize, n: usize, word: u8) -> Own
-    ensures { result ≡ own_entry (before entries) p n word }
+    ensures { result ≡ own_entry entries.now p n word }
 {
     let i = live_entry(entries, p, n, word);
     if i >= n {
@@ -141,7 +142,7 @@ pub fn own_entry(entries: &Copies, p: usize, n: usize, word: u8) -> Own
 // No place before `from` is free and has the tag.
 fn lowest(entries: &Copies, p: usize, n: usize, tag: u8, taken: usize, from: usize) -> usize
     requires { (k : ℕ) → k < from → is_free entries.now p tag taken k ≡ false }
-    ensures { result ≡ lowest (before entries) p n tag taken }
+    ensures { result ≡ lowest entries.now p n tag taken }
 {
     let base = p % 8 * 64;
     let mut i: usize = from;
@@ -160,7 +161,7 @@ fn lowest(entries: &Copies, p: usize, n: usize, tag: u8, taken: usize, from: usi
 }
 
 pub fn free_slot(entries: &Copies, p: usize, n: usize, taken: usize) -> usize
-    ensures { result ≡ free_slot (before entries) p n taken }
+    ensures { result ≡ free_slot entries.now p n taken }
 {
     let from = places::first_invalid(entries, p, n);
     let i = lowest(entries, p, n, INVALID, taken, from);
@@ -175,7 +176,7 @@ pub fn free_slot(entries: &Copies, p: usize, n: usize, taken: usize) -> usize
 }
 
 pub fn rollback(entries: &mut Copies, flags: &mut Flags, p: usize, n: usize)
-    ensures { (after entries ≡ rolled_entries (before entries) p n) × (after flags ≡ status_down (before flags) p) }
+    ensures { (entries.new ≡ rolled_entries entries.old p n) × (flags.new ≡ status_down flags.old p) }
 {
     let base = p % 8 * 64;
     let mut i: usize = 0;
@@ -189,7 +190,7 @@ pub fn rollback(entries: &mut Copies, flags: &mut Flags, p: usize, n: usize)
 }
 
 pub fn commit_entries(entries: &mut Copies, p: usize, n: usize)
-    ensures { after entries ≡ committed_entries (before entries) p n }
+    ensures { entries.new ≡ committed_entries entries.old p n }
 {
     let base = p % 8 * 64;
     let mut i: usize = 0;
@@ -202,7 +203,7 @@ pub fn commit_entries(entries: &mut Copies, p: usize, n: usize)
 
 // Answers how many WRITE that is.
 pub fn write_back(memory: &mut Memory, e: Entry) -> u8
-    ensures { (after memory ≡ written_back (before memory) e) × (result ≡ writes e) }
+    ensures { (memory.new ≡ written_back memory.old e) × (result ≡ writes e) }
 {
     if e.state != DIRTY {
         return 0;
@@ -214,8 +215,8 @@ pub fn write_back(memory: &mut Memory, e: Entry) -> u8
 
 // Of lines or of entries: a copy is written back if DIRTY, and made invalid. Answers how many WRITE that is.
 pub fn clear(memory: &mut Memory, copies: &mut Copies, p: usize, i: usize) -> u8
-    ensures { (after memory ≡ written_back (before memory) (copy_at (before copies) p i)) ×
-        (after copies ≡ with_copy (before copies) p i no_entry) × (result ≡ writes (copy_at (before copies) p i)) }
+    ensures { (memory.new ≡ written_back memory.old (copy_at copies.old p i)) ×
+        (copies.new ≡ with_copy copies.old p i no_entry) × (result ≡ writes (copy_at copies.old p i)) }
 {
     let j = place(p, i);
     let e = Entry::unpack(copies[j]);

@@ -6,7 +6,6 @@ ghost use Rattle.entry.specs.Numbers.{INVALID};
 ghost use Rattle.entry.specs.Packing.{unpack};
 ghost use Rattle.rules.specs.State.{copy_at};
 ghost use Rattle.caches.specs.Own.{used, used_for};
-ghost use Rattle.rules.specs.Lent.{before};
 
 use entry::numbers::INVALID;
 use rules::Copies;
@@ -25,7 +24,7 @@ pub(crate) fn reach(n: usize) -> usize
 // No place from j to before the answer has the word.
 fn skip_words(entries: &Copies, j: usize, word: u8) -> usize
     requires { j + 4 ≤ 512 }
-    ensures by_index { (k : ℕ) → j ≤ k → k < result → eqb (unpack (get_or (before entries) k 0)).word word ≡ false }
+    ensures by_index { (k : ℕ) → j ≤ k → k < result → eqb (unpack (get_or entries.now k 0)).word word ≡ false }
     ensures lower_bound { (j ≤ result) × (result ≤ j + 4) }
 {
     if entry::packed::has_word(entries[j], word) {
@@ -48,7 +47,7 @@ fn skip_words(entries: &Copies, j: usize, word: u8) -> usize
 
 fn skip_eight(entries: &Copies, j: usize, word: u8) -> usize
     requires { j + 8 ≤ 512 }
-    ensures by_index { (k : ℕ) → j ≤ k → k < result → eqb (unpack (get_or (before entries) k 0)).word word ≡ false }
+    ensures by_index { (k : ℕ) → j ≤ k → k < result → eqb (unpack (get_or entries.now k 0)).word word ≡ false }
     ensures lower_bound { (j ≤ result) × (result ≤ j + 8) }
 {
     let k = skip_words(entries, j, word);
@@ -60,7 +59,7 @@ fn skip_eight(entries: &Copies, j: usize, word: u8) -> usize
 
 fn skip_last(entries: &Copies, end: usize, j: usize, word: u8) -> usize
     requires { (j ≤ end) × (end ≤ 512) }
-    ensures by_index { (k : ℕ) → j ≤ k → k < result → eqb (unpack (get_or (before entries) k 0)).word word ≡ false }
+    ensures by_index { (k : ℕ) → j ≤ k → k < result → eqb (unpack (get_or entries.now k 0)).word word ≡ false }
     ensures lower_bound { j ≤ result }
 {
     if j + 4 > end {
@@ -72,7 +71,7 @@ fn skip_last(entries: &Copies, end: usize, j: usize, word: u8) -> usize
 // Whether four places are 0, as an invalid entry is that a step left.
 fn four_unused(entries: &Copies, j: usize) -> bool
     requires { j + 4 ≤ 512 }
-    ensures { result ≡ true → (k : ℕ) → j ≤ k → k < j + 4 → used (unpack (get_or (before entries) k 0)) ≡ false }
+    ensures { result ≡ true → (k : ℕ) → j ≤ k → k < j + 4 → used (unpack (get_or entries.now k 0)) ≡ false }
 {
     if entries[j] != 0 {
         return false;
@@ -92,7 +91,7 @@ fn four_unused(entries: &Copies, j: usize) -> bool
 // Every place from j to before the answer is invalid.
 fn next_used(entries: &Copies, end: usize, j: usize) -> usize
     requires { (j ≤ end) × (end ≤ 512) }
-    ensures by_index { (k : ℕ) → j ≤ k → k < result → used (unpack (get_or (before entries) k 0)) ≡ false }
+    ensures by_index { (k : ℕ) → j ≤ k → k < result → used (unpack (get_or entries.now k 0)) ≡ false }
     ensures lower_bound { j ≤ result }
 {
     let mut at: usize = j;
@@ -112,7 +111,7 @@ fn next_used(entries: &Copies, end: usize, j: usize) -> usize
 // the word.
 pub(crate) fn next_of_word(entries: &Copies, end: usize, j: usize, word: u8) -> usize
     requires { (j ≤ end) × (end ≤ 512) }
-    ensures by_index { (k : ℕ) → j ≤ k → k < result → used_for (unpack (get_or (before entries) k 0)) word ≡ false }
+    ensures by_index { (k : ℕ) → j ≤ k → k < result → used_for (unpack (get_or entries.now k 0)) word ≡ false }
     ensures lower_bound { j ≤ result }
 {
     if word == 0 {
@@ -141,7 +140,7 @@ fn is_invalid(x: u64) -> bool
 // No entry of p from i to before the answer is invalid.
 fn skip_valid(entries: &Copies, p: usize, i: usize) -> usize
     requires { i + 4 ≤ 64 }
-    ensures by_index { (k : ℕ) → i ≤ k → k < result → eqb (copy_at (before entries) p k).tag INVALID ≡ false }
+    ensures by_index { (k : ℕ) → i ≤ k → k < result → eqb (copy_at entries.now p k).tag INVALID ≡ false }
     ensures lower_bound { (i ≤ result) × (result ≤ i + 4) }
 {
     let j = p % 8 * 64 + i;
@@ -165,7 +164,7 @@ fn skip_valid(entries: &Copies, p: usize, i: usize) -> usize
 
 // No entry of p before the answer is invalid. Long transactions fill the lower entries.
 pub(crate) fn first_invalid(entries: &Copies, p: usize, n: usize) -> usize
-    ensures { (k : ℕ) → k < result → eqb (copy_at (before entries) p k).tag INVALID ≡ false }
+    ensures { (k : ℕ) → k < result → eqb (copy_at entries.now p k).tag INVALID ≡ false }
 {
     let m = reach(n);
     let mut at: usize = 0;

@@ -6,7 +6,7 @@ ghost use Rattle.laws.specs.Choice.{pick};
 
 use crate::numbers::{READ, RFO, T_READ, T_RFO, WRITE};
 
-#[derive(Drop)]
+#[derive(Clone, Copy)]
 pub enum Answer {
     Value(u32),
     Done,
@@ -18,7 +18,7 @@ pub enum Answer {
     Refused(u8),
 }
 
-#[derive(Drop)]
+#[derive(Clone, Copy)]
 pub struct Counts {
     pub read: u32,
     pub rfo: u32,
@@ -29,7 +29,7 @@ pub struct Counts {
 }
 
 // Every answer carries six cycle counts.
-#[derive(Drop)]
+#[derive(Clone, Copy)]
 pub struct Answered {
     pub answer: Answer,
     pub counts: Counts,

@@ -1,5 +1,7 @@
 // One copy of a word, by value and packed in a number, and what happens to it.
 
+#![tactic(auto)]
+
 pub mod answer;
 pub mod numbers;
 pub mod packed;
@@ -13,7 +15,7 @@ ghost use Rattle.entry.specs.Entry.{with_state, with_tag, stored, shared, snoope
 use crate::numbers::{DIRTY, INVALID, READ, RESERVED, RFO, T_READ, T_RFO, VALID, WRITE};
 
 // A regular line has no tag: its tag is INVALID.
-#[derive(Drop)]
+#[derive(Clone, Copy)]
 pub struct Entry {
     pub state: u8,
     pub tag: u8,

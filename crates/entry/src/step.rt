@@ -5,7 +5,7 @@ ghost use Rattle.entry.specs.Step.{uses_word};
 
 use crate::numbers::{LOAD, LT, LTX, ST, STORE};
 
-#[derive(Drop)]
+#[derive(Clone, Copy)]
 pub struct Step {
     pub op: u8,
     pub core: usize,

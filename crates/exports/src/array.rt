@@ -1,7 +1,7 @@
 // The machine that the array holds: tested, taken out of it, put into it.
 
 ghost use Rattle.std.specs.Prelude.{◌≡◌, true, ◌≤◌, eqb, length};
-ghost use Rattle.rules.specs.Lent.{before, after, lent};
+ghost use Rattle.rules.specs.State.{caches};
 ghost use Rattle.exports.specs.Array.{state_end, none_above, held_ok, dims_in, machine_in, with_parts, array_of};
 
 use crate::copying;
@@ -12,7 +12,7 @@ use rules::{Copies, Dims, Flags, Machine, Memory};
 
 fn none_above(state: &State, most: u64, from: usize, to: usize) -> bool
     requires { (from ≤ to) × (to ≤ state_end) }
-    ensures { result ≡ none_above most from to (before state) }
+    ensures { result ≡ none_above most from to state.now }
 {
     let mut i = from;
     while i < to {
@@ -27,13 +27,13 @@ fn none_above(state: &State, most: u64, from: usize, to: usize) -> bool
 // A caller's array has this length by type. The definitions speak of lists, which have any, and an array tells its list's length where it is made
 // a slice.
 fn is_whole(state: &[u64]) -> bool
-    ensures { result ≡ eqb (length (before state)) state_end }
+    ensures { result ≡ eqb (length state.now) state_end }
 {
     state.len() == STATE_END
 }
 
 pub(crate) fn held_ok(state: &State) -> bool
-    ensures { result ≡ held_ok (before state) }
+    ensures { result ≡ held_ok state.now }
 {
     is_whole(state)
         & none_above(state, 0, 4, FLAGS_FROM)
@@ -44,7 +44,7 @@ pub(crate) fn held_ok(state: &State) -> bool
 }
 
 pub(crate) fn dims_of(state: &State) -> Dims
-    ensures { result ≡ dims_in (before state) }
+    ensures { result ≡ dims_in state.now }
 {
     Dims {
         processors: state[0] as usize,
@@ -56,7 +56,7 @@ pub(crate) fn dims_of(state: &State) -> Dims
 
 pub(crate) fn machine_of(state: &State) -> Machine
     requires { held_ok state.now ≡ true }
-    ensures { result ≡ machine_in (before state) }
+    ensures { result ≡ machine_in state.now }
 {
     let memory = copying::memory_of(state);
     let lines = copying::copies_of(state, LINES_FROM);
@@ -79,7 +79,7 @@ pub(crate) fn put_parts(
     entries: &Copies,
     flags: &Flags,
 )
-    ensures { after state ≡ with_parts (before state) (lent memory lines entries flags) }
+    ensures { state.new ≡ with_parts state.old (caches memory.now lines.now entries.now flags.now) }
 {
     copying::put_flags(state, flags);
     copying::put_memory(state, memory);
@@ -88,7 +88,7 @@ pub(crate) fn put_parts(
 }
 
 pub(crate) fn put_machine(state: &mut State, m: Machine)
-    ensures { after state ≡ array_of m }
+    ensures { state.new ≡ array_of m }
 {
     let d = m.dims;
     *state = [0u64; 2048];

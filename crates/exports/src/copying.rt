@@ -3,7 +3,6 @@
 ghost use Rattle.std.specs.Prelude.{◌≡◌, true, ◌+◌, ◌≤◌};
 ghost use Rattle.std.proofs.lemmas.List.Edits.{sets};
 ghost use Rattle.rules.specs.State.{true_flag};
-ghost use Rattle.rules.specs.Lent.{before, after};
 ghost use Rattle.exports.specs.Array.{flags_from, flags_end, memory_from, lines_from, state_end, part, none_above, most_value};
 
 use crate::places::{FLAGS_FROM, MEMORY_FROM, State};
@@ -43,7 +42,7 @@ pub(crate) fn wide_number(x: u8) -> u32
 
 pub(crate) fn memory_of(state: &State) -> Memory
     requires { none_above most_value memory_from lines_from state.now ≡ true }
-    ensures { result ≡ part memory_from 256 (before state) }
+    ensures { result ≡ part memory_from 256 state.now }
 {
     let mut whole = [0u32; 256];
     let mut i: usize = 0;
@@ -56,7 +55,7 @@ pub(crate) fn memory_of(state: &State) -> Memory
 
 pub(crate) fn flags_of(state: &State) -> Flags
     requires { none_above true_flag flags_from flags_end state.now ≡ true }
-    ensures { result ≡ part flags_from 16 (before state) }
+    ensures { result ≡ part flags_from 16 state.now }
 {
     let mut whole = [0u8; 16];
     let mut i: usize = 0;
@@ -69,7 +68,7 @@ pub(crate) fn flags_of(state: &State) -> Flags
 
 pub(crate) fn copies_of(state: &State, from: usize) -> Copies
     requires { from + 512 ≤ state_end }
-    ensures { result ≡ part from 512 (before state) }
+    ensures { result ≡ part from 512 state.now }
 {
     let mut whole = [0u64; 512];
     let mut i: usize = 0;
@@ -81,7 +80,7 @@ pub(crate) fn copies_of(state: &State, from: usize) -> Copies
 }
 
 pub(crate) fn put_memory(state: &mut State, whole: &Memory)
-    ensures { after state ≡ sets (before state) memory_from (part 0 256 (before whole)) }
+    ensures { state.new ≡ sets state.old memory_from (part 0 256 whole.now) }
 {
     let mut i: usize = 0;
     while i < 256 {
@@ -91,7 +90,7 @@ pub(crate) fn put_memory(state: &mut State, whole: &Memory)
 }
 
 pub(crate) fn put_flags(state: &mut State, whole: &Flags)
-    ensures { after state ≡ sets (before state) flags_from (part 0 16 (before whole)) }
+    ensures { state.new ≡ sets state.old flags_from (part 0 16 whole.now) }
 {
     let mut i: usize = 0;
     while i < 16 {
@@ -102,7 +101,7 @@ pub(crate) fn put_flags(state: &mut State, whole: &Flags)
 
 fn put_places(state: &mut State, to: usize, whole: &Copies, from: usize, n: usize)
     requires { (to + n ≤ state_end) × (from + n ≤ 512) }
-    ensures { after state ≡ sets (before state) to (part from n (before whole)) }
+    ensures { state.new ≡ sets state.old to (part from n whole.now) }
 {
     let mut i: usize = 0;
     while i < n {
@@ -114,7 +113,7 @@ fn put_places(state: &mut State, to: usize, whole: &Copies, from: usize, n: usiz
 // By halves: a long copy the C library makes by an instruction that an emulator takes byte by byte.
 pub(crate) fn put_copies(state: &mut State, to: usize, whole: &Copies)
     requires { to + 512 ≤ state_end }
-    ensures { after state ≡ sets (before state) to (part 0 512 (before whole)) }
+    ensures { state.new ≡ sets state.old to (part 0 512 whole.now) }
 {
     put_places(state, to, whole, 0, 256);
     put_places(state, to + 256, whole, 256, 256);

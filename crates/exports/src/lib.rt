@@ -1,6 +1,8 @@
 // The machine for programs in C: one array of 2,048 numbers that the caller lends. include/stirnfeld.h declares these functions and says
 // what every number means.
 
+#![tactic(auto)]
+
 mod array;
 mod copying;
 mod places;
@@ -8,17 +10,17 @@ mod places;
 ghost use Rattle.std.specs.Prelude.{◌≡◌};
 ghost use Rattle.entry.specs.Step.{step};
 ghost use Rattle.rules.specs.Making.{dims};
-ghost use Rattle.rules.specs.Lent.{before, after, lent_steps, columns_of};
+ghost use Rattle.rules.specs.Lent.{lent_steps, columns_of};
 ghost use Rattle.exports.specs.Handed.{handed, make_in, sound_in, step_lent, step_in, run_lent, run_in, settle_in};
 
 use crate::array::{dims_of, held_ok, machine_of, put_machine, put_parts};
 use crate::copying::wide_number;
-use crate::places::{ENTRIES_FROM, LINES_FROM, State};
+use crate::places::{ENTRIES_FROM, LINES_FROM};
+pub use crate::places::State;
 use entry::refusals::{ACCEPTED, NOT_SOUND};
 
 // initial is the memory that the caller gives. What the array held before does not matter.
-#[unsafe(no_mangle)]
-pub extern "C" fn stirnfeld_make(
+pub fn stirnfeld_make(
     processors: usize,
     words: usize,
     lines: usize,
@@ -26,7 +28,7 @@ pub extern "C" fn stirnfeld_make(
     initial: &[u32],
     state: &mut State,
 ) -> u8
-    ensures { handed result (after state) ≡ make_in (dims processors words lines entries) (before initial) (before state) }
+    ensures { handed result state.new ≡ make_in (dims processors words lines entries) initial.now state.old }
 {
     let made = machine::make(processors, words, lines, entries, initial);
     if made.refusal != ACCEPTED {
@@ -36,9 +38,8 @@ pub extern "C" fn stirnfeld_make(
     ACCEPTED
 }
 
-#[unsafe(no_mangle)]
-pub extern "C" fn stirnfeld_sound(state: &State) -> u8
-    ensures { result ≡ sound_in (before state) }
+pub fn stirnfeld_sound(state: &State) -> u8
+    ensures { result ≡ sound_in state.now }
 {
     if !held_ok(state) {
         return NOT_SOUND;
@@ -52,8 +53,7 @@ pub extern "C" fn stirnfeld_sound(state: &State) -> u8
 
 // The number of steps that were taken goes into taken; where the whole run is refused, 0. The machine is nowhere by value: its parts are copied out
 // of the array, lent, and copied back.
-#[unsafe(no_mangle)]
-pub extern "C" fn stirnfeld_run(
+pub fn stirnfeld_run(
     state: &mut State,
     ops: &[u8],
     cores: &[u8],
@@ -70,8 +70,8 @@ pub extern "C" fn stirnfeld_run(
     taken: &mut usize,
 ) -> u8
     ensures { let c = columns_of answers results reads rfos writes t_reads t_rfos busies in
-        handed result (run_lent (after taken) (after state) c.exit) ≡
-        run_in (before state) (lent_steps ops cores used_words values) c.entry }
+        handed result (run_lent taken.new state.new c.exit) ≡
+        run_in state.old (lent_steps ops cores used_words values) c.entry }
 {
     if !held_ok(state) {
         *taken = 0;
@@ -110,8 +110,7 @@ pub extern "C" fn stirnfeld_run(
 
 // told becomes the answer's number, its value, and the six counts. The step is a run of one place: so the library has one call of the machine's
 // steps, and the compiler writes them out in the run's loop.
-#[unsafe(no_mangle)]
-pub extern "C" fn stirnfeld_step(
+pub fn stirnfeld_step(
     state: &mut State,
     op: u8,
     core: u8,
@@ -119,7 +118,7 @@ pub extern "C" fn stirnfeld_step(
     value: u32,
     told: &mut [u32; 8],
 ) -> u8
-    ensures { handed result (step_lent (after state) (after told)) ≡ step_in (before state) (step op core word value) (before told) }
+    ensures { handed result (step_lent state.new told.new) ≡ step_in state.old (step op core word value) told.old }
 {
     let mut number = [0u8];
     let mut result = [0u32];
@@ -163,9 +162,8 @@ pub extern "C" fn stirnfeld_step(
 }
 
 // values becomes every word's settled value, and 0 past the words.
-#[unsafe(no_mangle)]
-pub extern "C" fn stirnfeld_settle(state: &State, values: &mut [u32; 256]) -> u8
-    ensures { handed result (after values) ≡ settle_in (before state) (before values) }
+pub fn stirnfeld_settle(state: &State, values: &mut [u32; 256]) -> u8
+    ensures { handed result values.new ≡ settle_in state.now values.old }
 {
     if !held_ok(state) {
         return NOT_SOUND;

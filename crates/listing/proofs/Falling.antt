@@ -1,4 +1,4 @@
--- With each line IsFewer are left, no line is longer than most_line, and none is empty.
+-- With each line fewer are left, no line is longer than most_line, and none is empty.
 use mathlib.Core.Path.{◌≡◌, refl, ◌∙◌}
 use mathlib.Core.Bool.{Bool, true, false}
 use mathlib.Core.List.{List}

@@ -43,7 +43,9 @@ answer_parts n a =
 
 answer_parts_lem : (n : ℕ) (a : Answered) → texts (answer_parts n a) ≡ answer_line n a
 unfolding answer_line
-answer_parts_lem n a = rw (append_assoc (bytes (answer_name a.answer)) (bytes ",") (texts (decimal (printed a.answer) ∷ (bytes "," ∷ (decimal (cycles_of a.counts) ∷ (crlf ∷ []))))))
+answer_parts_lem n a =
+    rw (append_assoc (bytes (answer_name a.answer)) (bytes ",")
+    (texts (decimal (printed a.answer) ∷ (bytes "," ∷ (decimal (cycles_of a.counts) ∷ (crlf ∷ []))))))
 
 -- neither empty nor longer than most_line
 abbrev pub IsFair : List ℕ → Type 0

@@ -39,7 +39,8 @@ module _ (s : List ℕ) where
   rest_end : (x : Replaying) → is_more x ≡ false → rest x ≡ []
   unfolding listing_from whole_text
   rest_end x e =
-      whole_end (goes_on s (dims_of x)) (line_of s (dims_of x)) (next_at s (dims_of x)) most_line (lines_left s (dims_of x)) (falls s (dims_of x)) (going_of x) e
+      whole_end (goes_on s (dims_of x)) (line_of s (dims_of x)) (next_at s (dims_of x)) most_line (lines_left s (dims_of x)) (falls s (dims_of x))
+      (going_of x) e
 
   pub piece_rest : (x : Replaying) (o : List ℕ) → written_by x o ++ rest (after x o) ≡ rest x
   unfolding next_piece fill_of listing_from whole_text
@@ -69,8 +70,8 @@ module _ (s : List ℕ) where
   piece_ended : (x : Replaying) (o : List ℕ) → is_more x ≡ false → (written_by x o ≡ []) × (is_more (after x o) ≡ false)
   unfolding next_piece fill_of
   piece_ended x o e =
-      rw (piece_none (goes_on s (dims_of x)) (line_of s (dims_of x)) (next_at s (dims_of x)) most_line (lines_left s (dims_of x)) (falls s (dims_of x))
-      (left_over x) (going_of x) o e)
+      rw (piece_none (goes_on s (dims_of x)) (line_of s (dims_of x)) (next_at s (dims_of x)) most_line (lines_left s (dims_of x))
+      (falls s (dims_of x)) (left_over x) (going_of x) o e)
       (refl, e)
 
   -- f pieces joined, the last into os 0
@@ -100,6 +101,7 @@ module _ (s : List ℕ) where
         by false e ih = joined_none (suc f) x e ∙ sym (rest_end x e)
 
     -- from the beginning, as many pieces as it takes: the listing
-    pub joined_listing : ((k : ℕ) → most_line ≤ length (os k)) → (d : Dims) (f : ℕ) → left_over (begin_of s d) ≤ f → joined f (begin_of s d) ≡ listing d s
+    pub joined_listing : ((k : ℕ) → most_line ≤ length (os k)) → (d : Dims) (f : ℕ) → left_over (begin_of s d) ≤ f →
+        joined f (begin_of s d) ≡ listing d s
     unfolding listing
     joined_listing big d f h = joined_rest big f (begin_of s d) h

@@ -1,5 +1,7 @@
 // The replay of a whole text: its listing, written in pieces to a lent buffer.
 
+#![tactic(auto)]
+
 mod lines;
 mod pieces;
 mod places;
@@ -8,20 +10,19 @@ mod records;
 ghost use Rattle.std.specs.Prelude.{◌≡◌, ◌≤◌};
 ghost use Rattle.rules.specs.Making.{dims};
 ghost use Rattle.listing.specs.Replay.{piece_left_by, begin_of, next_piece};
-ghost use Rattle.rules.specs.Lent.{before, after};
 
 use crate::places::Place;
 use rules::Machine;
 
 // What stands between two pieces.
-#[derive(Drop)]
+#[derive(Clone, Copy)]
 pub struct Replaying {
     place: Place,
     machine: Machine,
 }
 
 // used bytes of the buffer were written; none where the listing is whole, or the buffer has fewer than 72.
-#[derive(Drop)]
+#[derive(Clone, Copy)]
 pub struct Piece {
     pub used: usize,
     pub replaying: Replaying,
@@ -40,7 +41,7 @@ fn lent_words(words: usize) -> usize
 
 // The machine has memory zero. One that is refused is replayed too: its listing is the refusal.
 pub fn begin(s: &[u8], processors: usize, words: usize, lines: usize, entries: usize) -> Replaying
-    ensures { result ≡ begin_of (before s) (dims processors words lines entries) }
+    ensures { result ≡ begin_of s.now (dims processors words lines entries) }
 {
     let memory = [0u32; 256];
     let n = lent_words(words);
@@ -53,8 +54,9 @@ pub fn begin(s: &[u8], processors: usize, words: usize, lines: usize, entries: u
     }
 }
 
+#[tactic(auto, unfolding(crate::specs::Replay::next_piece))]
 pub fn next_piece(s: &[u8], out: &mut [u8], x: Replaying) -> Piece
-    ensures { piece_left_by result (after out) ≡ next_piece (before s) x (before out) }
+    ensures { piece_left_by result out.new ≡ next_piece s.now x out.old }
 {
     let first = x.place;
     let m = x.machine;

@@ -3,7 +3,6 @@
 ghost use Rattle.std.specs.Prelude.{◌≡◌, ◌+◌, ◌≤◌, length};
 ghost use Rattle.text.specs.Writing.{filled, put_of};
 ghost use Rattle.listing.specs.Lines.{most_line, name_field, printed, answer_line, end_line, header_line};
-ghost use Rattle.rules.specs.Lent.{before, after};
 
 use entry::answer::{Answer, Answered};
 use text::writing::{put_bytes, put_number};
@@ -17,7 +16,7 @@ const NAMES: [u8; 62] = *b",VALUE,,DONE,,SUCCESS,,FAILURE,,TRUE,,FALSE,,ABORTED,
 const STARTS: [u8; 9] = [0, 7, 13, 22, 31, 37, 44, 53, 62];
 
 fn put_name(out: &mut [u8], at: usize, answer: Answer) -> usize
-    ensures { filled result (after out) ≡ put_of (name_field answer) (filled at (before out)) }
+    ensures { filled result out.new ≡ put_of (name_field answer) (filled at out.old) }
 {
     let names = NAMES;
     let starts = STARTS;
@@ -45,7 +44,7 @@ fn printed(answer: Answer) -> u64
 
 pub(crate) fn write_answer(out: &mut [u8], at: usize, number: u64, told: Answered) -> usize
     requires { at + most_line ≤ length out.old }
-    ensures { filled result (after out) ≡ put_of (answer_line number told) (filled at (before out)) }
+    ensures { filled result out.new ≡ put_of (answer_line number told) (filled at out.old) }
 {
     let answer = told.answer;
     let counts = told.counts;
@@ -59,7 +58,7 @@ pub(crate) fn write_answer(out: &mut [u8], at: usize, number: u64, told: Answere
 
 pub(crate) fn write_end(out: &mut [u8], at: usize, commits: u64, cycles: u64) -> usize
     requires { at + most_line ≤ length out.old }
-    ensures { filled result (after out) ≡ put_of (end_line commits cycles) (filled at (before out)) }
+    ensures { filled result out.new ≡ put_of (end_line commits cycles) (filled at out.old) }
 {
     let a = put_bytes(out, at, b"END,COMMITTED,");
     let b = put_number(out, a, commits);
@@ -69,7 +68,7 @@ pub(crate) fn write_end(out: &mut [u8], at: usize, commits: u64, cycles: u64) ->
 }
 
 pub(crate) fn write_header(out: &mut [u8], at: usize) -> usize
-    ensures { filled result (after out) ≡ put_of header_line (filled at (before out)) }
+    ensures { filled result out.new ≡ put_of header_line (filled at out.old) }
 {
     put_bytes(out, at, b"record,answer,value,bus\r\n")
 }

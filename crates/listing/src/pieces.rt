@@ -4,7 +4,7 @@ ghost use Rattle.std.specs.Prelude.{◌≡◌, ◌+◌, ◌≤◌, leb, length};
 ghost use Rattle.rules.specs.State.{Caches};
 ghost use Rattle.listing.specs.Lines.{most_line};
 ghost use Rattle.listing.specs.Listing.{going, fills_by, fills, wrote_in, do_record, do_other, do_line, fill_of};
-ghost use Rattle.rules.specs.Lent.{before, lent};
+ghost use Rattle.rules.specs.Lent.{lent};
 
 use crate::lines::{LINE_MOST, write_answer, write_end, write_header};
 use crate::places::{END, HEADER, NOTHING, Place, RECORD, REFUSAL, first_phase, more, with_phase};
@@ -13,7 +13,7 @@ use entry::answer::Answered;
 use rules::{Copies, Dims, Flags, Memory};
 
 // Where the replay stands, and how much of the buffer is written.
-#[derive(Drop)]
+#[derive(Clone, Copy)]
 pub struct Reached {
     pub place: Place,
     pub used: usize,
@@ -31,7 +31,7 @@ fn do_record(
     x: Place,
 ) -> Reached
     requires { used + most_line ≤ length out.old }
-    ensures { fills result out memory lines entries flags ≡ wrote_in (do_record (before s) d x (lent memory lines entries flags)) used out }
+    ensures { fills result out memory lines entries flags ≡ wrote_in (do_record s.now d x (lent memory lines entries flags)) used out }
 {
     let l = look_at(s, x);
     let told = answer_of(memory, lines, entries, flags, d, l);
@@ -47,7 +47,7 @@ fn do_record(
 // The header, a refusal before any record, or the end.
 fn do_other(s: &[u8], out: &mut [u8], used: usize, x: Place) -> Reached
     requires { used + most_line ≤ length out.old }
-    ensures { (c : Caches) → fills_by result out c ≡ wrote_in (do_other (before s) x c) used out }
+    ensures { (c : Caches) → fills_by result out c ≡ wrote_in (do_other s.now x c) used out }
 {
     if x.phase == HEADER {
         let k = write_header(out, used);
@@ -75,6 +75,7 @@ fn do_other(s: &[u8], out: &mut [u8], used: usize, x: Place) -> Reached
     }
 }
 
+#[tactic(auto, unfolding(crate::specs::Listing::do_line))]
 fn do_line(
     s: &[u8],
     out: &mut [u8],
@@ -87,7 +88,7 @@ fn do_line(
     x: Place,
 ) -> Reached
     requires { used + most_line ≤ length out.old }
-    ensures { fills result out memory lines entries flags ≡ wrote_in (do_line (before s) d x (lent memory lines entries flags)) used out }
+    ensures { fills result out memory lines entries flags ≡ wrote_in (do_line s.now d x (lent memory lines entries flags)) used out }
 {
     if x.phase == RECORD {
         return do_record(s, out, used, memory, lines, entries, flags, d, x);
@@ -115,7 +116,7 @@ pub(crate) fn fill(
     first: Place,
 ) -> Reached
     ensures { let from = going first (lent memory lines entries flags) in
-        fills result out memory lines entries flags ≡ fill_of (before s) d from (before out) }
+        fills result out memory lines entries flags ≡ fill_of s.now d from out.old }
 {
     let room = out.len();
     let mut x = first;

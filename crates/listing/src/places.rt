@@ -2,7 +2,6 @@
 
 ghost use Rattle.std.specs.Prelude.{◌≡◌};
 ghost use Rattle.listing.specs.Place.{first_place, with_phase, more64, past, phase_at, first_phase, begin_at};
-ghost use Rattle.rules.specs.Lent.{before};
 
 use entry::refusals::{ACCEPTED, WRONG_HEADER};
 use text::names::text_is;
@@ -21,7 +20,7 @@ pub(crate) const NOTHING: u8 = 4;
 
 // refusal is the machine's or the header's; at is where the next record begins, number the last record's; taken says whether a record
 // was, and grant is the last such record's.
-#[derive(Drop)]
+#[derive(Clone, Copy)]
 pub struct Place {
     pub phase: u8,
     pub refusal: u8,
@@ -34,6 +33,7 @@ pub struct Place {
 }
 
 // Counts stand still at the largest number.
+#[tactic(auto, unfolding(crate::specs::Place::more64))]
 pub(crate) fn more(n: u64, k: u64) -> u64
     ensures { result ≡ more64 n k }
 {
@@ -44,8 +44,9 @@ pub(crate) fn more(n: u64, k: u64) -> u64
 }
 
 // Past a record's CRLF, if it has one.
+#[tactic(auto, unfolding(crate::specs::Place::past))]
 pub(crate) fn past(s: &[u8], end: usize) -> usize
-    ensures { result ≡ past (before s) end }
+    ensures { result ≡ past s.now end }
 {
     if end < s.len() {
         return end + 2;
@@ -53,8 +54,9 @@ pub(crate) fn past(s: &[u8], end: usize) -> usize
     end
 }
 
+#[tactic(auto, unfolding(crate::specs::Place::phase_at))]
 pub(crate) fn phase_at(s: &[u8], at: usize) -> u8
-    ensures { result ≡ phase_at (before s) at }
+    ensures { result ≡ phase_at s.now at }
 {
     if at < s.len() {
         return RECORD;
@@ -63,8 +65,9 @@ pub(crate) fn phase_at(s: &[u8], at: usize) -> u8
 }
 
 // What comes after the listing's own header.
+#[tactic(auto, unfolding(crate::specs::Place::first_phase))]
 pub(crate) fn first_phase(s: &[u8], x: Place) -> u8
-    ensures { result ≡ first_phase (before s) x }
+    ensures { result ≡ first_phase s.now x }
 {
     if x.refusal != ACCEPTED {
         return REFUSAL;
@@ -102,8 +105,9 @@ fn first_place(refusal: u8, at: usize) -> Place
     }
 }
 
+#[tactic(auto, unfolding(crate::specs::Place::begin_at, crate::specs::Place::header_ok))]
 pub(crate) fn begin_at(s: &[u8], made: u8) -> Place
-    ensures { result ≡ begin_at (before s) made }
+    ensures { result ≡ begin_at s.now made }
 {
     if made != ACCEPTED {
         return first_place(made, 0);

@@ -3,7 +3,7 @@
 ghost use Rattle.std.specs.Prelude.{◌≡◌};
 ghost use Rattle.rules.specs.State.{outcome};
 ghost use Rattle.listing.specs.Records.{rises, grant_refusal, looked, look_at, answer_of, is_success, phase_after, place_after, no_fields};
-ghost use Rattle.rules.specs.Lent.{before, lent, returned};
+ghost use Rattle.rules.specs.Lent.{lent, returned};
 
 use crate::places::{END, Place, more, past, phase_at};
 use entry::answer::{Answer, Answered};
@@ -16,13 +16,14 @@ use text::records::{Parsed, Record, read_record, record_end};
 const BYTES_MOST: usize = 4194304;
 
 // Where the next record begins, the refusal or 0, and the fields.
-#[derive(Drop)]
+#[derive(Clone, Copy)]
 pub struct Looked {
     pub next: usize,
     pub refusal: u8,
     pub fields: Parsed,
 }
 
+#[tactic(auto, unfolding(crate::specs::Records::rises))]
 fn rises(x: Place, grant: u32) -> bool
     ensures { result ≡ rises x grant }
 {
@@ -32,6 +33,7 @@ fn rises(x: Place, grant: u32) -> bool
     true
 }
 
+#[tactic(auto, unfolding(crate::specs::Records::grant_refusal))]
 fn grant_refusal(x: Place, grant: u32) -> u8
     ensures { result ≡ grant_refusal x grant }
 {
@@ -61,8 +63,9 @@ fn unread(next: usize, refusal: u8) -> Looked
     }
 }
 
+#[tactic(auto, unfolding(crate::specs::Records::look_at))]
 pub(crate) fn look_at(s: &[u8], x: Place) -> Looked
-    ensures { result ≡ look_at (before s) x }
+    ensures { result ≡ look_at s.now x }
 {
     let at = x.at;
     let end = record_end(s, at);
@@ -84,6 +87,7 @@ pub(crate) fn look_at(s: &[u8], x: Place) -> Looked
 }
 
 // A refused record changes nothing.
+#[tactic(auto, unfolding(crate::specs::Records::answer_of))]
 pub(crate) fn answer_of(
     memory: &mut Memory,
     lines: &mut Copies,
@@ -116,8 +120,9 @@ fn successes(answer: Answer) -> u64
     }
 }
 
+#[tactic(auto, unfolding(crate::specs::Records::phase_after))]
 fn phase_after(s: &[u8], l: Looked) -> u8
-    ensures { result ≡ phase_after (before s) l }
+    ensures { result ≡ phase_after s.now l }
 {
     if l.refusal == TOO_LONG {
         return END;
@@ -125,8 +130,9 @@ fn phase_after(s: &[u8], l: Looked) -> u8
     phase_at(s, l.next)
 }
 
+#[tactic(auto, unfolding(crate::specs::Records::place_after))]
 pub(crate) fn place_after(s: &[u8], x: Place, l: Looked, told: Answered) -> Place
-    ensures { result ≡ place_after (before s) x l told }
+    ensures { result ≡ place_after s.now x l told }
 {
     let answer = told.answer;
     let counts = told.counts;

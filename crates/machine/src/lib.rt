@@ -1,5 +1,7 @@
 // The published machine: made, tested, asked and stepped by value. Inside, nothing that holds an array goes by value.
 
+#![tactic(auto)]
+
 mod making;
 mod settling;
 
@@ -8,7 +10,6 @@ ghost use Rattle.rules.specs.State.{caches_of};
 ghost use Rattle.rules.specs.Making.{dims, make_of};
 ghost use Rattle.rules.specs.SoundTest.{sound_of};
 ghost use Rattle.rules.specs.Step.{step_of, settled_of, settle_of};
-ghost use Rattle.rules.specs.Lent.{before};
 
 use entry::answer::{Answer, Answered};
 use entry::refusals::{ACCEPTED, NO_SUCH_WORD, NOT_SOUND};
@@ -17,7 +18,7 @@ use rules::{Dims, Machine, Made, Settle, Stepped, narrowed};
 
 // A refused making hands back the smallest machine.
 pub fn make(processors: usize, words: usize, lines: usize, entries: usize, memory: &[u32]) -> Made
-    ensures { result ≡ make_of (dims processors words lines entries) (before memory) }
+    ensures { result ≡ make_of (dims processors words lines entries) memory.now }
 {
     let d = Dims {
         processors: processors,

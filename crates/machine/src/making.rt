@@ -3,13 +3,12 @@
 ghost use Rattle.std.specs.Prelude.{◌≡◌, ◌≤◌, length};
 ghost use Rattle.rules.specs.State.{machine_of};
 ghost use Rattle.rules.specs.Making.{make_refusal, padded, fresh_flags, fresh, smallest};
-ghost use Rattle.rules.specs.Lent.{before};
 
 use entry::refusals::{ACCEPTED, BAD_MEMORY};
 use rules::{Dims, Machine};
 
 pub(crate) fn make_refusal(d: Dims, memory: &[u32]) -> u8
-    ensures { result ≡ make_refusal d (before memory) }
+    ensures { result ≡ make_refusal d memory.now }
 {
     let k = sound::dims::dims_refusal(d);
     if k != ACCEPTED {
@@ -24,7 +23,7 @@ pub(crate) fn make_refusal(d: Dims, memory: &[u32]) -> u8
 
 fn fresh_memory(memory: &[u32]) -> [u32; 256]
     requires { length memory.now ≤ 256 }
-    ensures { result ≡ padded 256 (before memory) }
+    ensures { result ≡ padded 256 memory.now }
 {
     let mut whole = [0u32; 256];
     let n = memory.len();
@@ -51,7 +50,7 @@ fn fresh_flags(processors: usize) -> [u8; 16]
 
 pub(crate) fn fresh_machine(d: Dims, memory: &[u32]) -> Machine
     requires { (length memory.now ≤ 256) × (d.processors ≤ 8) }
-    ensures { result ≡ machine_of d (fresh d (before memory)) }
+    ensures { result ≡ machine_of d (fresh d memory.now) }
 {
     let whole = fresh_memory(memory);
     let flags = fresh_flags(d.processors);

@@ -1,9 +1,9 @@
 // The settled value of a word.
 
 ghost use Rattle.std.specs.Prelude.{◌≡◌, ◌≤◌};
+ghost use Rattle.rules.specs.State.{caches};
 ghost use Rattle.rules.specs.Step.{settled_all};
 ghost use Rattle.rules.specs.Settled.{is_dirty, is_settling, settling_entry, settles, settler, settled_in};
-ghost use Rattle.rules.specs.Lent.{before, lent};
 
 use entry::Entry;
 use entry::numbers::{BACKUP, DIRTY, INVALID, NORMAL};
@@ -31,7 +31,7 @@ fn is_settling(e: Entry, word: u8) -> bool
 }
 
 fn settling_entry(entries: &Copies, q: usize, n: usize, word: u8) -> usize
-    ensures { result ≡ settling_entry (before entries) q n word }
+    ensures { result ≡ settling_entry entries.now q n word }
 {
     let base = q % 8 * 64;
     let mut i: usize = 0;
@@ -50,7 +50,7 @@ fn settling_entry(entries: &Copies, q: usize, n: usize, word: u8) -> usize
 }
 
 fn does_settle(lines: &Copies, entries: &Copies, d: Dims, i: usize, word: u8, q: usize) -> bool
-    ensures { result ≡ settles d i word (before lines) (before entries) q }
+    ensures { result ≡ settles d i word lines.now entries.now q }
 {
     let j = place(q, i);
     let e = Entry::unpack(lines[j]);
@@ -62,7 +62,7 @@ fn does_settle(lines: &Copies, entries: &Copies, d: Dims, i: usize, word: u8, q:
 }
 
 fn find_settler(lines: &Copies, entries: &Copies, d: Dims, i: usize, word: u8) -> usize
-    ensures { result ≡ settler d i word (before lines) (before entries) }
+    ensures { result ≡ settler d i word lines.now entries.now }
 {
     let n = d.processors;
     let mut q: usize = 0;
@@ -86,7 +86,7 @@ pub(crate) fn settled_in(
     d: Dims,
     word: u8,
 ) -> u32
-    ensures { result ≡ settled_in d word (lent memory lines entries flags) }
+    ensures { result ≡ settled_in d word (caches memory.now lines.now entries.now flags.now) }
 {
     let i = caches::home(d, word);
     let q = find_settler(lines, entries, d, i, word);
@@ -113,7 +113,7 @@ pub(crate) fn settled_all(
     d: Dims,
 ) -> Memory
     requires { d.words ≤ 256 }
-    ensures { result ≡ settled_all d (lent memory lines entries flags) }
+    ensures { result ≡ settled_all d (caches memory.now lines.now entries.now flags.now) }
 {
     let mut values = [0u32; 256];
     let n = d.words;

@@ -1,5 +1,7 @@
 // LOAD and STORE on the lent arrays.
 
+#![tactic(auto)]
+
 ghost use Rattle.std.specs.Prelude.{◌≡◌, List, ℕ};
 ghost use Rattle.entry.specs.declared.answer.Answer.TheVariants.{Value};
 ghost use Rattle.entry.specs.Numbers.{NORMAL};
@@ -8,7 +10,7 @@ ghost use Rattle.rules.specs.State.{caches, outcome, counted};
 ghost use Rattle.rules.specs.Own.{find_entry};
 ghost use Rattle.rules.specs.Load.{load_miss, load_on, load};
 ghost use Rattle.rules.specs.Store.{roll_own, drop_normal, store_through, store_miss, store_line, store};
-ghost use Rattle.rules.specs.Lent.{before, after, lent, returned};
+ghost use Rattle.rules.specs.Lent.{lent, returned};
 
 use entry::Entry;
 use entry::answer::{Answer, Answered, Counts};
@@ -112,8 +114,8 @@ pub fn load(
 // Answers where the NORMAL entry then stands.
 fn roll_own(entries: &mut Copies, flags: &mut Flags, d: Dims, p: usize, word: u8) -> usize
     ensures by_index { (m l : List ℕ) →
-        caches m l (after entries) (after flags) ≡ roll_own d p word (caches m l (before entries) (before flags)) }
-    ensures value { result ≡ find_entry (after entries) p d.entries NORMAL word }
+        caches m l entries.new flags.new ≡ roll_own d p word (caches m l entries.old flags.old) }
+    ensures value { result ≡ find_entry entries.new p d.entries NORMAL word }
 {
     let own = caches::own_entry(entries, p, d.entries, word);
     if own.tentative {
@@ -132,8 +134,8 @@ fn drop_normal(
     i: usize,
 ) -> u8
     requires { i ≡ find_entry entries.old p d.entries NORMAL word }
-    ensures { (l f : List ℕ) → counted result (caches (after memory) l (after entries) f) ≡
-        drop_normal d p word (caches (before memory) l (before entries) f) }
+    ensures { (l f : List ℕ) → counted result (caches memory.new l entries.new f) ≡
+        drop_normal d p word (caches memory.old l entries.old f) }
 {
     if i < d.entries {
         return caches::clear(memory, entries, p, i);

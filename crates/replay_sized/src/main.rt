@@ -1,5 +1,7 @@
 // The replay on a machine whose processors, words, lines and entries are the four arguments, memory zero.
 
+#![tactic(auto)]
+
 use text::decimals::{Field, read_number};
 
 // An argument that is missing or no decimal counts as 0. No decimal is longer than ten digits.

@@ -1,6 +1,8 @@
 // A driver over the published functions of the listing: it reads jobs from standard input until that ends, and answers each on standard
 // output. What a job and its reply hold, and in what order, is in tests/text/job.h.
 
+#![tactic(auto)]
+
 mod head;
 mod pieces;
 

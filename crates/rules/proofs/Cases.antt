@@ -12,7 +12,6 @@ abbrev bench : ℕ → List Row → Case
 bench entries rows = case (dims 2 4 4 entries) (10 ∷ 11 ∷ 12 ∷ 13 ∷ []) rows
 
 pub cases : List Case
-unfolding bench
 cases =
     -- A: P0 LT 1, P1 LT 1 both 11; P1 ST 1 ABORTED; P1 COMMIT FAILURE; P0 COMMIT SUCCESS.
     bench 2

@@ -19,7 +19,6 @@ abbrev edge : Dims → ℕ → ℕ → Edge
 edge d n r = record { machine = d; memory = n; refusal = r }
 
 pub edges : List Edge
-unfolding edge
 edges =
     -- "8 processors pass, 0 and 9 do not"
     edge (dims 8 4 4 2) 4 accepted ∷

@@ -11,7 +11,6 @@ abbrev with4 : List Row → Case
 with4 rows = case (dims 2 4 4 4) (10 ∷ 11 ∷ 12 ∷ 13 ∷ []) rows
 
 pub readings : List Case
-unfolding with4
 readings =
     -- "a NORMAL DIRTY line would never answer": P1 reads what P0 committed
     with4

@@ -1,19 +1,23 @@
 -- What the arrays hold that a function is lent. In an `ensures` the name of such an array is a pair, the array as it was lent and as it is
 -- returned; what an array or a slice of numbers holds is a list, whatever its length.
 use Rattle.std.specs.Prelude.{◌≡◌, List, ℕ}
-use Rattle.std.specs.Borrow.{Bor}
+use Rattle.std.specs.Borrow.{Bor, MutBor}
 use denote.Triple.Both.{Both}
 use Rattle.rules.specs.State.{Caches, caches}
 use Rattle.rules.specs.Run.{Steps, steps, Columns, columns}
 
-abbrev pub before : {X Y : Type 0} → Both (Bor X) Y → X
+abbrev pub before : {X Y : Type 0} → Both (MutBor X) Y → X
 before x = x.entry.now
 
-abbrev pub after : {X Y : Type 0} → Both Y (Bor X) → X
+abbrev pub after : {X Y : Type 0} → Both Y (MutBor X) → X
 after x = x.exit.now
 
 abbrev pub Numbers : Type 0
-Numbers = Both (Bor (List ℕ)) (Bor (List ℕ))
+Numbers = Both (MutBor (List ℕ)) (MutBor (List ℕ))
+
+-- an array that a function only reads
+abbrev pub Shared : Type 0
+Shared = Both (Bor (List ℕ)) (Bor (List ℕ))
 
 -- the four arrays of the state
 abbrev pub lent : (m l e f : Numbers) → Caches
@@ -23,8 +27,8 @@ abbrev pub returned : (m l e f : Numbers) → Caches
 returned m l e f = caches (after m) (after l) (after e) (after f)
 
 -- the columns of a trace, and of what its steps answer, these at both moments
-abbrev pub lent_steps : (o c w v : Numbers) → Steps
-lent_steps o c w v = steps (before o) (before c) (before w) (before v)
+abbrev pub lent_steps : (o c w v : Shared) → Steps
+lent_steps o c w v = steps o.entry.now c.entry.now w.entry.now v.entry.now
 
 abbrev pub columns_of : (a v r o w s t b : Numbers) → Both Columns Columns
 columns_of a v r o w s t b = record {
@@ -37,5 +41,5 @@ abbrev pub OnEntriesFlags : {X : Type 0} → (Caches → X) → (Caches → X) �
 OnEntriesFlags leaves does e f = (m l : List ℕ) → leaves (caches m l (after e) (after f)) ≡ does (caches m l (before e) (before f))
 
 -- what the four arrays hold at exit, where they are a function's first parameters: for a theorem on its `Post`
-abbrev pub seen : {R : Type 0} → Bor (List ℕ) × (Bor (List ℕ) × (Bor (List ℕ) × (Bor (List ℕ) × R))) → Caches
+abbrev pub seen : {R : Type 0} → MutBor (List ℕ) × (MutBor (List ℕ) × (MutBor (List ℕ) × (MutBor (List ℕ) × R))) → Caches
 seen (m, (l, (e, (f, rest)))) = caches m.now l.now e.now f.now

@@ -1,12 +1,14 @@
 // The machine's types. What document 01 says of them stands in specs/, one file for each of its paragraphs.
 
+#![tactic(auto)]
+
 ghost use Rattle.std.specs.Prelude.{◌≡◌};
 ghost use Rattle.rules.specs.State.{place};
 ghost use Rattle.rules.specs.Step.{narrowed};
 
 use entry::answer::Answered;
 
-#[derive(Drop)]
+#[derive(Clone, Copy)]
 pub struct Dims {
     pub processors: usize,
     pub words: usize,
@@ -23,7 +25,7 @@ pub type Flags = [u8; 16];
 
 // Processor p's regular line i stands at p * 64 + i, packed, and so does its transactional entry i. TACTIVE of p is flag p and TSTATUS
 // flag 8 + p, each 0 or 1.
-#[derive(Drop)]
+#[derive(Clone, Copy)]
 pub struct Machine {
     pub dims: Dims,
     pub memory: Memory,
@@ -47,27 +49,27 @@ pub fn narrowed(word: u32) -> u8
 }
 
 // refusal is 0 where the machine was made.
-#[derive(Drop)]
+#[derive(Clone, Copy)]
 pub struct Made {
     pub refusal: u8,
     pub machine: Machine,
 }
 
 // Every word's settled value, 0 past the words.
-#[derive(Drop)]
+#[derive(Clone, Copy)]
 pub struct Settle {
     pub refusal: u8,
     pub values: Memory,
 }
 
-#[derive(Drop)]
+#[derive(Clone, Copy)]
 pub struct Stepped {
     pub told: Answered,
     pub machine: Machine,
 }
 
 // refusal is 0 where every step was taken.
-#[derive(Drop)]
+#[derive(Clone, Copy)]
 pub struct Ran {
     pub taken: usize,
     pub refusal: u8,

@@ -4,6 +4,7 @@ use mathlib.Core.Path.{◌∙◌, sym, ap}
 use mathlib.Core.List.{List}
 use Prim.Native.Nat.{ℕ}
 use denote.Ref.{Bor}
+use denote.MutBor.{MutBor}
 use Rattle.laws.specs.OneAnswer.{OneAnswer}
 use Rattle.rules.specs.State.{caches_of}
 use Rattle.rules.specs.Run.{Columns, columns, Carried, carried, Left}
@@ -15,7 +16,10 @@ use Rattle.runs.proofs.run_lent.Reads as run-lent-reads
 
 -- twelve parameters, the columns of steps and of answers, and what those of answers hold at exit
 abbrev pub TwelveColumns : Type 0 → Type 0
-TwelveColumns R = let L = Bor (List ℕ) in L × (L × (L × (L × (L × (L × (L × (L × (L × (L × (L × (L × R)))))))))))
+TwelveColumns R =
+    let I = Bor (List ℕ) in
+    let L = MutBor (List ℕ) in
+    I × (I × (I × (I × (L × (L × (L × (L × (L × (L × (L × (L × R)))))))))))
 
 abbrev pub seen_columns : {R : Type 0} → TwelveColumns R → Columns
 seen_columns (ops, (cores, (words, (values, (a, (v, (r, (o, (w, (s, (t, (b, rest)))))))))))) =

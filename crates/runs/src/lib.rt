@@ -1,12 +1,14 @@
 // The published run: a trace in columns, from a machine by value or from the four arrays of its state, lent. Inside, nothing that holds an array
 // goes by value.
 
+#![tactic(auto)]
+
 mod columns;
 pub mod running;
 
 ghost use Rattle.std.specs.Prelude.{◌≡◌};
 ghost use Rattle.rules.specs.State.{machine_of};
-ghost use Rattle.rules.specs.Run.{carried, columns_ok, run_of};
+ghost use Rattle.rules.specs.Run.{carried, columns_ok, run_of, columns};
 ghost use Rattle.rules.specs.Lent.{lent, returned, lent_steps, columns_of};
 ghost use Rattle.runs.specs.Halting.{left_by, halted};
 
@@ -30,8 +32,8 @@ fn columns_ok(
     t_rfo: &[u32],
     busy: &[u32],
 ) -> bool
-    ensures { let c = columns_of answers results read rfo write t_read t_rfo busy in
-        result ≡ columns_ok (lent_steps ops cores words values) c.entry }
+    ensures { let c = columns answers.now results.now read.now rfo.now write.now t_read.now t_rfo.now busy.now in
+        result ≡ columns_ok (lent_steps ops cores words values) c }
 {
     let n = ops.len();
     let a = also(n <= 65536, cores.len(), n);

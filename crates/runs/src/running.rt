@@ -10,7 +10,7 @@ use entry::refusals::ACCEPTED;
 use rules::{Copies, Dims, Flags, Memory};
 
 // refusal is 0 where every step was taken.
-#[derive(Drop)]
+#[derive(Clone, Copy)]
 pub struct Halt {
     pub taken: usize,
     pub refusal: u8,

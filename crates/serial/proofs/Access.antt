@@ -96,8 +96,8 @@ module _ {d : Dims} (a : Access) (p : ℕ) (lp : p < d.processors) (w v : ℕ) (
   aborted_does F c D = record { fit = rollback_fit F p lp; step = fails (kind a) O D }
 
   -- p holds w tentatively, at i: the answer, or the store
-  pub finish_does : {s : Caches} (F : Fit d s) (i : ℕ) (li : i < d.entries) → (entry_at s p i).tag ≡ TENTATIVE → (entry_at s p i).word ≡ w → (c : Counts)
-      → Obtained (kind a) d.processors p w S₁ (seen d s) → Does d S (by_access p w v) (finish (number a) p i v c s)
+  pub finish_does : {s : Caches} (F : Fit d s) (i : ℕ) (li : i < d.entries) → (entry_at s p i).tag ≡ TENTATIVE → (entry_at s p i).word ≡ w
+      → (c : Counts) → Obtained (kind a) d.processors p w S₁ (seen d s) → Does d S (by_access p w v) (finish (number a) p i v c s)
   unfolding finish
   finish_does {s} F i li ht hw c H = by a H
     where

@@ -5,7 +5,6 @@ use Prim.Native.Nat.{ℕ, ◌<◌}
 use borrow.Author.Tests.{lt-ltb}
 use Rattle.entry.specs.declared.answer.Answer.{Answer}
 use Rattle.entry.specs.declared.answer.Answer.TheVariants.{Value}
-use Rattle.entry.specs.declared.step.Step.{Step}
 use Rattle.entry.specs.Refusals.{accepted}
 use Rattle.rules.specs.declared.Dims.{Dims}
 use Rattle.rules.specs.declared.Machine.{Machine}
@@ -19,7 +18,6 @@ use Rattle.theory.specs.Event.{Event}
 use Rattle.theory.specs.Plain.{Serial, Opaque, after_events, unlogged}
 use Rattle.theory.proofs.Settled.{settled, Coherent, coherent→agree}
 use Rattle.theory.specs.Protocol
-use Rattle.theory.proofs.History
 use Rattle.theory.proofs.History.{History, history_serial}
 use Rattle.sound.proofs.Exact.{sound_true}
 use Rattle.serial.specs.Shown.{shows}
@@ -109,7 +107,8 @@ module _ (d : Dims) (memory : List ℕ) (values : Values memory) (ok : (make_of 
 
   -- Every LOAD is answered by the plain memory at its place, the reads of every transaction that commits replay on it whole at the commit, and
   -- at the end each word's settled value is the plain memory's.
-  pub demand_3 : Serial (events xs) (start memory) × ((w : ℕ) → w < d.words → settled_of m w ≡ Value ((after_events (events xs) (start memory)).val w))
+  pub demand_3 : Serial (events xs) (start memory)
+      × ((w : ℕ) → w < d.words → settled_of m w ≡ Value ((after_events (events xs) (start memory)).val w))
   unfolding settled_of
   demand_3 = (a.serial, value)
     where

@@ -126,7 +126,8 @@ rolled_regular (tentative s d (backup r x) t) h = refl
 
 module _ {d : Dims} {s : Caches} (F : Fit d s) (p : ℕ) (lp : p < d.processors) (w : ℕ) (lw : w < d.words) where
   -- NORMAL, or a miss
-  on_does : is_regular ((seen d s).copy w p) ≡ false → is_tentative ((seen d s).copy w p) ≡ false → Does d (seen d s) (by_load p w) (Load.load_on d p w s)
+  on_does : is_regular ((seen d s).copy w p) ≡ false → is_tentative ((seen d s).copy w p) ≡ false
+      → Does d (seen d s) (by_load p w) (Load.load_on d p w s)
   unfolding Load.load_on Load.load_miss
   on_does nr nt = by (ltb i d.entries) refl
     where

@@ -68,7 +68,8 @@ module _ {d : Dims} {s : Caches} (F : Fit d s) (p : ℕ) (lp : p < d.processors)
   tentative_is : slot_tentative (state_of c) w x (eqb c DIRTY) ≡ slot_tentative (state_of c) w x false
   tentative_is = ap (slot_tentative (state_of c) w x) clean
 
-  en : AllTidy d.entries (home d) (decoded d s_t) × OnlyWord p w (seen d s) (seen d s_t) × ((seen d s_t).copy w p ≡ tentative (state_of c) x bare false)
+  en : AllTidy d.entries (home d) (decoded d s_t) × OnlyWord p w (seen d s) (seen d s_t)
+      × ((seen d s_t).copy w p ≡ tentative (state_of c) x bare false)
   en = entered d.entries (home d) F.tidy li set_t (slot_at F p lp i li ∙ ap slot_of free-i) tentative_is gone
 
   FT : Fit d s_t
@@ -194,7 +195,8 @@ module _ {d : Dims} (a : Access) (p : ℕ) (lp : p < d.processors) (w : ℕ) (lw
           (finish (number a) p i v (asked (cycle (kind a)) n 0)
           (caches (snoop d p w (cycle (kind a)) s).memory (snoop d p w (cycle (kind a)) s).lines
           (fill_backup d p b (entry (filling (kind a)) BACKUP w (word_at (snoop d p w (cycle (kind a)) s) w))
-          (with_copy (snoop d p w (cycle (kind a)) s).entries p i (entry (filling (kind a)) TENTATIVE w (word_at (snoop d p w (cycle (kind a)) s) w))))
+          (with_copy (snoop d p w (cycle (kind a)) s).entries p i
+          (entry (filling (kind a)) TENTATIVE w (word_at (snoop d p w (cycle (kind a)) s) w))))
           (snoop d p w (cycle (kind a)) s).flags))
       by lt = refl
       by ltx = refl

@@ -216,7 +216,7 @@ pub plain_request_served : {d : Dims} {s : Caches} → Fit d s → (k : Kind) (c
 unfolding plain_request
 plain_request_served {d} {s} F k c C p w lp =
     let r = roll_others_lem d k c C p w lp s F in
-    let near = cleared (Protocol.opposing k) (opposing_roll k) d.processors p w r.1 in
+    let near = cleared (Protocol.opposing k) (opposing_roll k) p w d.processors r.1 in
     let free = spare r.0.fit k c C p w lp (λ q l n. near.near q l n) in
     let a = snoop_asks d k c C p w lp s (roll_others d p w c s) (record { fit = r.0.fit; spared = free; kept = r.0.own }) in
     (record { fit = a.0.fit; own = a.0.kept }, record { mid = seen d (roll_others d p w c s); rolls = r.1; asks = a.1 })

@@ -245,8 +245,8 @@ module _ {d : Dims} (p : ℕ) (lp : p < d.processors) (w : ℕ) (lw : w < d.word
           (own_copy F.frame.size p request.0.own w ∙ freed_none ev.freed w gone)).1
 
   line_does : (n : ℕ) → is_normal ((seen d s).copy w p) ≡ false → is_tentative ((seen d s).copy w p) ≡ false
-      → Does d S (by_store p w v) (Store.store_line_lem d p w v (counted n s))
-  unfolding Store.store_line_lem
+      → Does d S (by_store p w v) (Store.store_line d p w v (counted n s))
+  unfolding Store.store_line
   line_does n nn nt = by (holds (line_at s p (home d w)) w) refl (eqb (line_at s p (home d w)).state VALID) refl
     where
       by : (x : Bool) → holds (line_at s p (home d w)) w ≡ x → (y : Bool) → eqb (line_at s p (home d w)).state VALID ≡ y

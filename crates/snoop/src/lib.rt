@@ -1,6 +1,8 @@
 // What a request of processor p does to the others. Each other's entries are searched once: what deciding on the request finds is IsNoted, and
 // the snooping starts from there.
 
+#![tactic(auto)]
+
 mod many;
 mod other;
 
@@ -9,7 +11,7 @@ ghost use Rattle.laws.specs.Choice.{pick};
 ghost use Rattle.rules.specs.State.{caches};
 ghost use Rattle.rules.specs.Snoop.{snoop, first_opposing, refuses, plain_request};
 ghost use Rattle.snoop.specs.Firsts.{IsNoted};
-ghost use Rattle.rules.specs.Lent.{before, after, lent, returned};
+ghost use Rattle.rules.specs.Lent.{lent, returned};
 
 use rules::{Copies, Dims, Flags, Memory};
 
@@ -33,8 +35,8 @@ fn first_opposing(
     cycle: u8,
 ) -> usize
     requires { length firsts.old ≡ 8 }
-    ensures value { result ≡ first_opposing d p word cycle (before entries) }
-    ensures IsNoted { IsNoted d p word (after firsts) (before entries) result }
+    ensures value { result ≡ first_opposing d p word cycle entries.now }
+    ensures noted { IsNoted d p word firsts.new entries.now result }
 {
     let n = d.processors;
     let mut q: usize = 0;
@@ -65,8 +67,8 @@ fn snoop_noted(
 )
     requires processors_bound { d.processors ≤ 8 }
     requires IsNoted { IsNoted d p word firsts.now entries.old d.processors }
-    ensures { (f : List ℕ) → caches (after memory) (after lines) (after entries) f ≡
-        snoop d p word cycle (caches (before memory) (before lines) (before entries) f) }
+    ensures { (f : List ℕ) → caches memory.new lines.new entries.new f ≡
+        snoop d p word cycle (caches memory.old lines.old entries.old f) }
 {
     let i = caches::home(d, word);
     let n = d.processors;
@@ -115,10 +117,10 @@ pub fn request(
     word: u8,
     cycle: u8,
 ) -> bool
-    ensures value { result ≡ refuses d p word cycle (before entries) }
-    ensures by_index { (f : List ℕ) → caches (after memory) (after lines) (after entries) f ≡
-        pick result (caches (before memory) (before lines) (before entries) f)
-        (snoop d p word cycle (caches (before memory) (before lines) (before entries) f)) }
+    ensures value { result ≡ refuses d p word cycle entries.old }
+    ensures by_index { (f : List ℕ) → caches memory.new lines.new entries.new f ≡
+        pick result (caches memory.old lines.old entries.old f)
+        (snoop d p word cycle (caches memory.old lines.old entries.old f)) }
 {
     let mut firsts: Firsts = [0; 8];
     let q = first_opposing(entries, &mut firsts, d, p, word, cycle);

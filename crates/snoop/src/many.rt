@@ -3,7 +3,7 @@
 ghost use Rattle.std.specs.Prelude.{◌≡◌, List, ℕ};
 ghost use Rattle.rules.specs.State.{caches};
 ghost use Rattle.rules.specs.Snoop.{snoop_one, snoop, roll_one, roll_others, plain_request};
-ghost use Rattle.rules.specs.Lent.{before, after, lent, returned};
+ghost use Rattle.rules.specs.Lent.{lent, returned};
 
 use crate::other;
 use rules::{Copies, Dims, Flags, Memory};
@@ -19,8 +19,8 @@ fn snoop_one(
     cycle: u8,
     q: usize,
 )
-    ensures { (d : Dims) → d.entries ≡ n → (f : List ℕ) → caches (after memory) (after lines) (after entries) f ≡
-        snoop_one d i p word cycle q (caches (before memory) (before lines) (before entries) f) }
+    ensures { (d : Dims) → d.entries ≡ n → (f : List ℕ) → caches memory.new lines.new entries.new f ≡
+        snoop_one d i p word cycle q (caches memory.old lines.old entries.old f) }
 {
     if q == p {
         return;
@@ -39,8 +39,8 @@ pub(crate) fn snoop(
     word: u8,
     cycle: u8,
 )
-    ensures { (f : List ℕ) → caches (after memory) (after lines) (after entries) f ≡
-        snoop d p word cycle (caches (before memory) (before lines) (before entries) f) }
+    ensures { (f : List ℕ) → caches memory.new lines.new entries.new f ≡
+        snoop d p word cycle (caches memory.old lines.old entries.old f) }
 {
     let i = caches::home(d, word);
     let n = d.processors;
@@ -61,8 +61,8 @@ fn roll_one(
     cycle: u8,
     q: usize,
 )
-    ensures { (d : Dims) → d.entries ≡ n → (m l : List ℕ) → caches m l (after entries) (after flags) ≡
-        roll_one d p word cycle q (caches m l (before entries) (before flags)) }
+    ensures { (d : Dims) → d.entries ≡ n → (m l : List ℕ) → caches m l entries.new flags.new ≡
+        roll_one d p word cycle q (caches m l entries.old flags.old) }
 {
     if other::other_opposing(entries, n, p, word, cycle, q) {
         caches::rollback(entries, flags, q, n);
@@ -70,8 +70,8 @@ fn roll_one(
 }
 
 fn roll_others(entries: &mut Copies, flags: &mut Flags, d: Dims, p: usize, word: u8, cycle: u8)
-    ensures { (m l : List ℕ) → caches m l (after entries) (after flags) ≡
-        roll_others d p word cycle (caches m l (before entries) (before flags)) }
+    ensures { (m l : List ℕ) → caches m l entries.new flags.new ≡
+        roll_others d p word cycle (caches m l entries.old flags.old) }
 {
     let n = d.processors;
     let mut q: usize = 0;

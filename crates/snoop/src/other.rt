@@ -8,14 +8,14 @@ ghost use Rattle.rules.specs.State.{caches, copy_at, with_copy};
 ghost use Rattle.rules.specs.Own.{live_entry};
 ghost use Rattle.rules.specs.Snoop.{written_back, snoop_line, snoop_entry, snoop_one, opposes, other_opposes, roll_one};
 ghost use Rattle.snoop.specs.Firsts.{first_of};
-ghost use Rattle.rules.specs.Lent.{before, after, lent, returned};
+ghost use Rattle.rules.specs.Lent.{lent, returned};
 
 use entry::Entry;
 use entry::numbers::{READ, RESERVED, RFO, T_READ, T_RFO, TENTATIVE, WRITE};
 use rules::{Copies, Flags, Memory, place};
 
 pub(crate) fn first_of(entries: &Copies, n: usize, p: usize, word: u8, q: usize) -> usize
-    ensures { result ≡ first_of n p word (before entries) q }
+    ensures { result ≡ first_of n p word entries.now q }
 {
     if q == p {
         return n;
@@ -25,8 +25,8 @@ pub(crate) fn first_of(entries: &Copies, n: usize, p: usize, word: u8, q: usize)
 
 // Of lines or of entries: a copy that takes part.
 fn snoop_copy(memory: &mut Memory, copies: &mut Copies, cycle: u8, q: usize, i: usize)
-    ensures { (after memory ≡ written_back (before memory) (copy_at (before copies) q i)) ×
-        (after copies ≡ with_copy (before copies) q i (snooped cycle (copy_at (before copies) q i))) }
+    ensures { (memory.new ≡ written_back memory.old (copy_at copies.old q i)) ×
+        (copies.new ≡ with_copy copies.old q i (snooped cycle (copy_at copies.old q i))) }
 {
     let j = place(q, i);
     let e = Entry::unpack(copies[j]);
@@ -43,8 +43,8 @@ pub(crate) fn snoop_line(
     cycle: u8,
     q: usize,
 )
-    ensures { (e f : List ℕ) → caches (after memory) (after lines) e f ≡
-        snoop_line i word cycle q (caches (before memory) (before lines) e f) }
+    ensures { (e f : List ℕ) → caches memory.new lines.new e f ≡
+        snoop_line i word cycle q (caches memory.old lines.old e f) }
 {
     let j = place(q, i);
     let e = Entry::unpack(lines[j]);
@@ -63,8 +63,8 @@ pub(crate) fn snoop_entry(
     i: usize,
 )
     requires { i ≡ live_entry entries.old q n word }
-    ensures { (d : Dims) → d.entries ≡ n → (l f : List ℕ) → caches (after memory) l (after entries) f ≡
-        snoop_entry d word cycle q (caches (before memory) l (before entries) f) }
+    ensures { (d : Dims) → d.entries ≡ n → (l f : List ℕ) → caches memory.new l entries.new f ≡
+        snoop_entry d word cycle q (caches memory.old l entries.old f) }
 {
     if i < n {
         snoop_copy(memory, entries, cycle, q, i);
@@ -84,8 +84,8 @@ pub(crate) fn snoop_at(
     first: usize,
 )
     requires { first ≡ first_of n p word entries.old q }
-    ensures { (d : Dims) → d.entries ≡ n → (f : List ℕ) → caches (after memory) (after lines) (after entries) f ≡
-        snoop_one d i p word cycle q (caches (before memory) (before lines) (before entries) f) }
+    ensures { (d : Dims) → d.entries ≡ n → (f : List ℕ) → caches memory.new lines.new entries.new f ≡
+        snoop_one d i p word cycle q (caches memory.old lines.old entries.old f) }
 {
     if q == p {
         return;
@@ -119,7 +119,7 @@ fn against(e: Entry, cycle: u8) -> bool
 }
 
 fn opposing(entries: &Copies, n: usize, word: u8, cycle: u8, q: usize) -> bool
-    ensures { (d : Dims) → d.entries ≡ n → result ≡ opposes d word cycle q (before entries) }
+    ensures { (d : Dims) → d.entries ≡ n → result ≡ opposes d word cycle q entries.now }
 {
     let i = caches::find_tentative(entries, q, n, word);
     if i >= n {
@@ -138,7 +138,7 @@ pub(crate) fn other_opposing(
     cycle: u8,
     q: usize,
 ) -> bool
-    ensures { (d : Dims) → d.entries ≡ n → result ≡ other_opposes d p word cycle (before entries) q }
+    ensures { (d : Dims) → d.entries ≡ n → result ≡ other_opposes d p word cycle entries.now q }
 {
     if q == p {
         return false;
@@ -158,7 +158,7 @@ fn opposing_at(
 ) -> bool
     requires first_value { first ≡ first_of n p word entries.now q }
     requires first_lt_n { first < n }
-    ensures { (d : Dims) → d.entries ≡ n → result ≡ other_opposes d p word cycle (before entries) q }
+    ensures { (d : Dims) → d.entries ≡ n → result ≡ other_opposes d p word cycle entries.now q }
 {
     let j = place(q, first);
     let e = Entry::unpack(entries[j]);
@@ -178,7 +178,7 @@ pub(crate) fn opposing_from(
     first: usize,
 ) -> bool
     requires { first ≡ first_of n p word entries.now q }
-    ensures { (d : Dims) → d.entries ≡ n → result ≡ other_opposes d p word cycle (before entries) q }
+    ensures { (d : Dims) → d.entries ≡ n → result ≡ other_opposes d p word cycle entries.now q }
 {
     if first >= n {
         return false;
@@ -196,9 +196,9 @@ fn roll_one(
     cycle: u8,
     q: usize,
 ) -> usize
-    ensures flags_value { (d : Dims) → d.entries ≡ n → (m l : List ℕ) → caches m l (after entries) (after flags) ≡
-        roll_one d p word cycle q (caches m l (before entries) (before flags)) }
-    ensures value { result ≡ first_of n p word (after entries) q }
+    ensures flags_value { (d : Dims) → d.entries ≡ n → (m l : List ℕ) → caches m l entries.new flags.new ≡
+        roll_one d p word cycle q (caches m l entries.old flags.old) }
+    ensures value { result ≡ first_of n p word entries.new q }
 {
     let first = first_of(entries, n, p, word, q);
     if first >= n {

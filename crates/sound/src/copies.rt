@@ -2,7 +2,6 @@
 
 ghost use Rattle.std.specs.Prelude.{◌≡◌};
 ghost use Rattle.rules.specs.SoundTest.{is_clean, is_owned, is_only, copy_ok};
-ghost use Rattle.rules.specs.Lent.{before};
 
 use crate::marks::{Marks, mark_key, mark_value};
 use crate::owners::{Owners, owner_of};
@@ -19,14 +18,14 @@ pub(crate) fn copy_ok(
     e: Entry,
     j: usize,
 ) -> bool
-    ensures { result ≡ copy_ok (before memory) (before marks) (before owners) words kind e j }
+    ensures { result ≡ copy_ok memory.now marks.now owners.now words kind e j }
 {
     let word = e.word as usize;
     (word < words) & is_clean(memory, e) & is_owned(owners, e, j) & is_only(marks, kind, e, j)
 }
 
 fn is_clean(memory: &Memory, e: Entry) -> bool
-    ensures { result ≡ is_clean (before memory) e }
+    ensures { result ≡ is_clean memory.now e }
 {
     if e.state == DIRTY {
         return true;
@@ -36,7 +35,7 @@ fn is_clean(memory: &Memory, e: Entry) -> bool
 }
 
 fn is_owned(owners: &Owners, e: Entry, j: usize) -> bool
-    ensures { result ≡ is_owned (before owners) e j }
+    ensures { result ≡ is_owned owners.now e j }
 {
     let word = e.word as usize;
     let owner = owners[word];
@@ -47,7 +46,7 @@ fn is_owned(owners: &Owners, e: Entry, j: usize) -> bool
 }
 
 fn is_only(marks: &Marks, kind: u8, e: Entry, j: usize) -> bool
-    ensures { result ≡ is_only (before marks) kind e j }
+    ensures { result ≡ is_only marks.now kind e j }
 {
     let k = mark_key(e, j);
     marks[k] == mark_value(kind, j)

@@ -2,7 +2,6 @@
 
 ghost use Rattle.std.specs.Prelude.{◌≡◌};
 ghost use Rattle.rules.specs.SoundTest.{flags_up, is_partner, backup_ok, entry_ok, entries_ok};
-ghost use Rattle.rules.specs.Lent.{before};
 
 use crate::copies::copy_ok;
 use crate::marks::{Marks, OF_ENTRIES};
@@ -19,7 +18,7 @@ pub(crate) fn entries_ok(
     d: Dims,
     entries: &Copies,
 ) -> bool
-    ensures { result ≡ entries_ok (before memory) (before marks) (before owners) (before flags) d (before entries) }
+    ensures { result ≡ entries_ok memory.now marks.now owners.now flags.now d entries.now }
 {
     let mut j: usize = 0;
     while j < 512 {
@@ -41,7 +40,7 @@ fn entry_ok(
     x: u64,
     j: usize,
 ) -> bool
-    ensures { result ≡ entry_ok (before memory) (before marks) (before owners) (before entries) (before flags) d x j }
+    ensures { result ≡ entry_ok memory.now marks.now owners.now entries.now flags.now d x j }
 {
     if x == 0 {
         return true;
@@ -58,7 +57,7 @@ fn entry_ok(
 }
 
 fn flags_up(flags: &Flags, e: Entry, j: usize) -> bool
-    ensures { result ≡ flags_up (before flags) e j }
+    ensures { result ≡ flags_up flags.now e j }
 {
     if e.tag != TENTATIVE {
         return true;
@@ -69,7 +68,7 @@ fn flags_up(flags: &Flags, e: Entry, j: usize) -> bool
 }
 
 fn backup_ok(marks: &Marks, entries: &Copies, e: Entry, j: usize) -> bool
-    ensures { result ≡ backup_ok (before marks) (before entries) e j }
+    ensures { result ≡ backup_ok marks.now entries.now e j }
 {
     if e.tag != BACKUP {
         return true;

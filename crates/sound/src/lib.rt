@@ -2,6 +2,8 @@
 // every place is looked at once against the notes. Nothing is compared pair by pair. Tests are put together by `&`, which makes them all, as a
 // sound state needs: so a contract is one equation, with no case for each test that fails.
 
+#![tactic(auto)]
+
 mod arrays;
 mod copies;
 pub mod dims;
@@ -11,8 +13,8 @@ mod marks;
 mod owners;
 
 ghost use Rattle.std.specs.Prelude.{◌≡◌};
+ghost use Rattle.rules.specs.State.{caches};
 ghost use Rattle.rules.specs.SoundTest.{copies_ok, sound_of};
-ghost use Rattle.rules.specs.Lent.{lent};
 
 use crate::arrays::{flags_ok, lengths_ok, memory_ok};
 use crate::dims::dims_refusal;
@@ -24,7 +26,7 @@ use entry::refusals::ACCEPTED;
 use rules::{Copies, Dims, Flags, Memory};
 
 pub fn sound(memory: &Memory, lines: &Copies, entries: &Copies, flags: &Flags, d: Dims) -> bool
-    ensures { result ≡ sound_of d (lent memory lines entries flags) }
+    ensures { result ≡ sound_of d (caches memory.now lines.now entries.now flags.now) }
 {
     lengths_ok(memory, lines, entries, flags)
         & (dims_refusal(d) == ACCEPTED)
@@ -34,7 +36,7 @@ pub fn sound(memory: &Memory, lines: &Copies, entries: &Copies, flags: &Flags, d
 }
 
 fn copies_ok(memory: &Memory, lines: &Copies, entries: &Copies, flags: &Flags, d: Dims) -> bool
-    ensures { result ≡ copies_ok d (lent memory lines entries flags) }
+    ensures { result ≡ copies_ok d (caches memory.now lines.now entries.now flags.now) }
 {
     let mut marks: Marks = [0; 4096];
     mark_all(&mut marks, OF_LINES, lines);

@@ -2,7 +2,6 @@
 
 ghost use Rattle.std.specs.Prelude.{◌≡◌};
 ghost use Rattle.rules.specs.SoundTest.{is_home, line_ok, lines_ok};
-ghost use Rattle.rules.specs.Lent.{before};
 
 use crate::copies::copy_ok;
 use crate::marks::{Marks, OF_LINES};
@@ -18,7 +17,7 @@ pub(crate) fn lines_ok(
     d: Dims,
     lines: &Copies,
 ) -> bool
-    ensures { result ≡ lines_ok (before memory) (before marks) (before owners) d (before lines) }
+    ensures { result ≡ lines_ok memory.now marks.now owners.now d lines.now }
 {
     let mut j: usize = 0;
     while j < 512 {
@@ -31,7 +30,7 @@ pub(crate) fn lines_ok(
 }
 
 fn line_ok(memory: &Memory, marks: &Marks, owners: &Owners, d: Dims, x: u64, j: usize) -> bool
-    ensures { result ≡ line_ok (before memory) (before marks) (before owners) d x j }
+    ensures { result ≡ line_ok memory.now marks.now owners.now d x j }
 {
     if x == 0 {
         return true;

@@ -3,7 +3,6 @@
 
 ghost use Rattle.std.specs.Prelude.{◌≡◌, ◌<◌};
 ghost use Rattle.rules.specs.SoundTest.{mark_key, mark_value, mark_one, mark_all};
-ghost use Rattle.rules.specs.Lent.{before, after};
 
 use entry::Entry;
 use entry::numbers::BACKUP;
@@ -34,7 +33,7 @@ pub(crate) fn mark_value(kind: u8, j: usize) -> u16
 }
 
 pub(crate) fn mark_all(marks: &mut Marks, kind: u8, copies: &Copies)
-    ensures { after marks ≡ mark_all kind (before copies) (before marks) }
+    ensures { marks.new ≡ mark_all kind copies.now marks.old }
 {
     let mut j: usize = 0;
     while j < 512 {
@@ -44,7 +43,7 @@ pub(crate) fn mark_all(marks: &mut Marks, kind: u8, copies: &Copies)
 }
 
 fn mark_one(marks: &mut Marks, kind: u8, x: u64, j: usize)
-    ensures { after marks ≡ mark_one kind x j (before marks) }
+    ensures { marks.new ≡ mark_one kind x j marks.old }
 {
     if x == 0 {
         return;

@@ -3,7 +3,6 @@
 
 ghost use Rattle.std.specs.Prelude.{◌≡◌};
 ghost use Rattle.rules.specs.SoundTest.{owner_of, own_one, own_all};
-ghost use Rattle.rules.specs.Lent.{before, after};
 
 use entry::Entry;
 use entry::numbers::RESERVED;
@@ -19,7 +18,7 @@ pub(crate) fn owner_of(j: usize) -> u8
 }
 
 pub(crate) fn own_all(owners: &mut Owners, copies: &Copies)
-    ensures { after owners ≡ own_all (before copies) (before owners) }
+    ensures { owners.new ≡ own_all copies.now owners.old }
 {
     let mut j: usize = 0;
     while j < 512 {
@@ -29,7 +28,7 @@ pub(crate) fn own_all(owners: &mut Owners, copies: &Copies)
 }
 
 fn own_one(owners: &mut Owners, x: u64, j: usize)
-    ensures { after owners ≡ own_one x j (before owners) }
+    ensures { owners.new ≡ own_one x j owners.old }
 {
     let e = Entry::unpack(x);
     if e.state < RESERVED {

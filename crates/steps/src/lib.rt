@@ -1,5 +1,7 @@
 // The steps by their numbers, on the lent arrays, and which of them are refused.
 
+#![tactic(auto)]
+
 mod allowed;
 mod ends;
 

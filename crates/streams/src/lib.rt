@@ -1,5 +1,7 @@
 // A replay from standard input to standard output. A read or write that fails is told on standard error.
 
+#![tactic(auto)]
+
 ghost use Rattle.std.specs.Prelude.{◌≡◌, length};
 ghost use Rattle.io.specs.Counts.{IsPrefixLen};
 
@@ -13,7 +15,7 @@ fn input_buffer() -> [u8; 4194305]
 }
 
 // How many bytes came, and whether a read failed before the input was full or at its end.
-#[derive(Drop)]
+#[derive(Clone, Copy)]
 struct Came {
     bytes: usize,
     failed: bool,

@@ -1,4 +1,3 @@
-pub mod Cases
 pub mod Inside
 pub mod Tables
 pub mod Puts

@@ -39,7 +39,6 @@ abbrev no_step : Record
 no_step = Refused no_such_step
 
 pub rows : List Row
-unfolding row reads malformed_record no_step
 rows =
     -- the worked example
     row "10,0,LTX,5,0" (reads 10 0 LTX 5 0) ∷
@@ -94,7 +93,6 @@ abbrev number : ℕ → String → Number
 number v t = record { value = v; text = t }
 
 pub numbers : List Number
-unfolding number
 numbers =
     number 0 "0" ∷
     number 9 "9" ∷

@@ -5,7 +5,7 @@ ghost use Rattle.text.specs.Decimals.{push, digits_of, field_of};
 
 use crate::marks::{DIGIT_NINE, DIGIT_ZERO, byte_at};
 
-#[derive(Drop)]
+#[derive(Clone, Copy)]
 pub enum Field {
     Number(u32),
     Bad,
@@ -14,6 +14,7 @@ pub enum Field {
 const NUMBER_MOST: u64 = 4294967295;
 
 // The number that the bytes from `from` up to `end` write.
+#[tactic(auto, unfolding(crate::specs::Decimals::field_of))]
 pub fn read_number(s: &[u8], from: usize, end: usize) -> Field
     ensures { result ≡ field_of s.now from end }
 {
@@ -44,6 +45,7 @@ fn read_digits(s: &[u8], from: usize, end: usize) -> Field
 }
 
 // One more digit.
+#[tactic(auto, unfolding(crate::specs::Decimals::push))]
 fn pushed(f: Field, b: u8) -> Field
     ensures { result ≡ push b f }
 {

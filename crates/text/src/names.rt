@@ -7,7 +7,7 @@ use crate::marks::byte_at;
 use entry::numbers::INTERRUPT;
 
 // What a text names: a step by its number, or nothing.
-#[derive(Drop)]
+#[derive(Clone, Copy)]
 pub enum Named {
     Step(u8),
     Nothing,
@@ -19,6 +19,7 @@ const NAMES: [u8; 44] = *b"LOADSTORELTLTXSTCOMMITABORTVALIDATEINTERRUPT";
 const STARTS: [u8; 10] = [0, 4, 9, 11, 14, 16, 22, 27, 35, 44];
 
 // The bytes from `from` up to `end` are the name.
+#[tactic(auto, unfolding(crate::specs::Names::same_text))]
 pub fn text_is(s: &[u8], from: usize, end: usize, name: &[u8]) -> bool
     ensures { result ≡ same_text s.now from end name.now }
 {

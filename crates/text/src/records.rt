@@ -9,20 +9,20 @@ use crate::names::{Named, step_of};
 use entry::refusals::{MALFORMED, NO_SUCH_STEP};
 use entry::step::Step;
 
-#[derive(Drop)]
+#[derive(Clone, Copy)]
 pub struct Parsed {
     pub grant: u32,
     pub step: Step,
 }
 
-#[derive(Drop)]
+#[derive(Clone, Copy)]
 pub enum Record {
     Fields(Parsed),
     Refused(u8),
 }
 
 // Where the four commas of a record stand.
-#[derive(Drop)]
+#[derive(Clone, Copy)]
 struct Commas {
     a: usize,
     b: usize,
@@ -30,7 +30,7 @@ struct Commas {
     d: usize,
 }
 
-#[derive(Drop)]
+#[derive(Clone, Copy)]
 enum Split {
     Fields(Commas),
     Bad,
@@ -69,6 +69,7 @@ fn ends_at(s: &[u8], i: usize) -> bool
 }
 
 // The record of the bytes from `from` up to `end`, its CRLF not among them.
+#[tactic(auto, unfolding(crate::specs::Records::record_of))]
 pub fn read_record(s: &[u8], from: usize, end: usize) -> Record
     ensures { result ≡ record_of s.now from end }
 {
@@ -108,6 +109,7 @@ pub fn read_record(s: &[u8], from: usize, end: usize) -> Record
 }
 
 // Four commas, so five fields.
+#[tactic(auto, unfolding(crate::specs::Records::split_of))]
 fn split_record(s: &[u8], from: usize, end: usize) -> Split
     ensures { result ≡ split_of s.now from end }
 {
@@ -143,6 +145,7 @@ fn split_record(s: &[u8], from: usize, end: usize) -> Split
 }
 
 // At most 64 bytes, and no quote mark.
+#[tactic(auto, unfolding(crate::specs::Records::plain_of))]
 fn is_plain(s: &[u8], from: usize, end: usize) -> bool
     ensures { result ≡ plain_of s.now from end }
 {

@@ -9,6 +9,7 @@ use crate::marks::DIGIT_ZERO;
 // A number of 64 bits has at most 20 digits.
 const WIDTH_MOST: usize = 20;
 
+#[tactic(auto, unfolding(crate::specs::Writing::put_of))]
 pub fn put_bytes(out: &mut [u8], at: usize, text: &[u8]) -> usize
     ensures { filled result out.new ≡ put_of text.now (filled at out.old) }
 {
@@ -23,6 +24,7 @@ pub fn put_bytes(out: &mut [u8], at: usize, text: &[u8]) -> usize
     at + n
 }
 
+#[tactic(auto, using(crate::proofs::Puts::number_not, crate::proofs::Puts::number_fit))]
 pub fn put_number(out: &mut [u8], at: usize, v: u64) -> usize
     ensures { filled result out.new ≡ put_of (decimal v) (filled at out.old) }
 {

@@ -21,13 +21,13 @@ run_append done r = r
 run_append (quietly s q) r = quietly s (run_append q r)
 run_append (showing s q) r = showing s (run_append q r)
 
-history_run : {S S' : View} {P : Plain} {es : List Event} (n : ℕ) → Inv S P → Within n S → History n S es S' → Run S es S'
+history_run : (n : ℕ) {S S' : View} {P : Plain} {es : List Event} → Inv S P → Within n S → History n S es S' → Run S es S'
 history_run n I b nothing = done
 history_run n I b (then s b' h) =
     let r = step_run n I.agree b s in
     run_append r (history_run n (serial I r).2 b' h)
 
-last_within : {S S' : View} {es : List Event} (n : ℕ) → Within n S → History n S es S' → Within n S'
+last_within : (n : ℕ) {S S' : View} {es : List Event} → Within n S → History n S es S' → Within n S'
 last_within n b nothing = b
 last_within n b (then s b' h) = last_within n b' h
 

@@ -84,10 +84,10 @@ pub record Asked (k : Protocol.Kind) (n p w : ℕ) (S S' : View) : Type 0 where
   pub phase : Phase n p w S S'
   pub near : (q : ℕ) → q < n → q ≢ p → S'.copy w q ≡ Protocol.snoops k (S.copy w q)
 
-pub asked : {S S' : View} (k : Protocol.Kind) (n p w : ℕ) → ((q : ℕ) → q ≢ p → Protocol.opposing k (S.copy w q) ≡ false)
+pub asked : (k : Protocol.Kind) (p w n : ℕ) {S S' : View} → ((q : ℕ) → q ≢ p → Protocol.opposing k (S.copy w q) ≡ false)
     → Protocol.Each (Protocol.Snooped (Protocol.snoops k) Protocol.supplied p w) n S S' → Asked k n p w S S'
-asked k n p w h Protocol.start = record { phase = record { runs = done; keeps = kept_refl; far = λ q l i. refl }; near = λ q l i. absurd (omega arith) }
-asked {S} {S'} k n p w h (Protocol.and_then {n = n₁} {S₁ = S₁} c r) = snoc (asked k n₁ p w h c)
+asked k p w n h Protocol.start = record { phase = record { runs = done; keeps = kept_refl; far = λ q l i. refl }; near = λ q l i. absurd (omega arith) }
+asked k p w n {S} {S'} h (Protocol.and_then {n = n₁} {S₁ = S₁} c r) = snoc (asked k p w n₁ h c)
   where
     snoc : Asked k n₁ p w S S₁ → Asked k (suc n₁) p w S S'
     snoc a = record {
@@ -139,7 +139,7 @@ served {S} {S'} k n p w f a = record { phase = a.phase; gives = go k (λ q l i. 
     go Protocol.owning h = λ q i. elim (dec_lt q n) [ yes l ↦ h q l i ∙ taken_none (S.copy w q) | no l ↦ far_after f a.phase q (omega arith) i ]
 
 pub by_grant : {S S' : View} (k : Protocol.Kind) (n p w : ℕ) → Far n p w S → Protocol.Granted k n p w S S' → Served k n p w S S'
-by_grant k n p w f g = served k n p w f (asked k n p w g.nobody g.asks)
+by_grant k n p w f g = served k n p w f (asked k p w n g.nobody g.asks)
 
 -- rollbacks of others
 pub rollback_silent : {S S' : View} (p : ℕ) → Protocol.RolledBack p S S' → Silent S S'
@@ -169,10 +169,10 @@ pub record Cleared (so : Copy → Bool) (n p w : ℕ) (S S' : View) : Type 0 whe
   pub phase : Phase n p w S S'
   pub near : (q : ℕ) → q < n → q ≢ p → so (S'.copy w q) ≡ false
 
-pub cleared : {S S' : View} (so : Copy → Bool) → ((c : Copy) → so (rolled_copy c) ≡ false) → (n p w : ℕ)
+pub cleared : (so : Copy → Bool) → ((c : Copy) → so (rolled_copy c) ≡ false) → (p w n : ℕ) {S S' : View}
     → Protocol.Each (Protocol.RollIf so p w) n S S' → Cleared so n p w S S'
-cleared so z n p w Protocol.start = record { phase = record { runs = done; keeps = kept_refl; far = λ q l i. refl }; near = λ q l i. absurd (omega arith) }
-cleared {S} {S'} so z n p w (Protocol.and_then {n = n₁} {S₁ = S₁} c r) = snoc (cleared so z n₁ p w c)
+cleared so z p w n Protocol.start = record { phase = record { runs = done; keeps = kept_refl; far = λ q l i. refl }; near = λ q l i. absurd (omega arith) }
+cleared so z p w n {S} {S'} (Protocol.and_then {n = n₁} {S₁ = S₁} c r) = snoc (cleared so z p w n₁ c)
   where
     snoc : Cleared so n₁ p w S S₁ → Cleared so (suc n₁) p w S S'
     snoc a = record {
@@ -204,8 +204,8 @@ phase_trans a b = record { runs = run_then a.runs b.runs; keeps = kept_trans a.k
 
 pub by_plain : {S S' : View} (k : Protocol.Kind) (n p w : ℕ) → Far n p w S → Protocol.Plainly k n p w S S' → Served k n p w S S'
 by_plain k n p w f g =
-    let a = cleared (Protocol.opposing k) (opposing_roll k) n p w g.rolls in
+    let a = cleared (Protocol.opposing k) (opposing_roll k) p w n g.rolls in
     let f' = far_after f a.phase in
     let b = served k n p w f'
-    (asked k n p w (λ q i. elim (dec_lt q n) [ yes l ↦ a.near q l i | no l ↦ rw (f' q (omega arith) i) (opposing_none k) ]) g.asks) in
+    (asked k p w n (λ q i. elim (dec_lt q n) [ yes l ↦ a.near q l i | no l ↦ rw (f' q (omega arith) i) (opposing_none k) ]) g.asks) in
     record { phase = phase_trans a.phase b.phase; gives = b.gives }

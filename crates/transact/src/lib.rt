@@ -1,5 +1,7 @@
 // LT, LTX and ST on the lent arrays.
 
+#![tactic(auto)]
+
 ghost use Rattle.std.specs.Prelude.{◌≡◌, List, ℕ, eqb};
 ghost use Rattle.laws.specs.Choice.{pick};
 ghost use Rattle.entry.specs.declared.answer.Answer.TheVariants.{Aborted};
@@ -8,7 +10,7 @@ ghost use Rattle.entry.specs.Answer.{answered};
 ghost use Rattle.rules.specs.State.{caches, outcome, counted};
 ghost use Rattle.rules.specs.Transact.{drop_line, finish, request_of, hit, open_normal, clear_backup, fill_backup};
 ghost use Rattle.rules.specs.Transact.{fill, request, miss_at, miss, seek, transact};
-ghost use Rattle.rules.specs.Lent.{before, after, lent, returned};
+ghost use Rattle.rules.specs.Lent.{lent, returned};
 
 use entry::Entry;
 use entry::answer::{Answer, Answered, Counts};
@@ -52,8 +54,8 @@ fn aborted(c: Counts) -> Answered
 }
 
 fn drop_line(memory: &mut Memory, lines: &mut Copies, d: Dims, p: usize, word: u8) -> u8
-    ensures { (e f : List ℕ) → counted result (caches (after memory) (after lines) e f) ≡
-        drop_line d p word (caches (before memory) (before lines) e f) }
+    ensures { (e f : List ℕ) → counted result (caches memory.new lines.new e f) ≡
+        drop_line d p word (caches memory.old lines.old e f) }
 {
     let i = caches::home(d, word);
     let j = place(p, i);
@@ -65,7 +67,7 @@ fn drop_line(memory: &mut Memory, lines: &mut Copies, d: Dims, p: usize, word: u
 }
 
 fn finish(entries: &mut Copies, op: u8, p: usize, i: usize, v: u32, c: Counts) -> Answered
-    ensures { (m l f : List ℕ) → outcome result (caches m l (after entries) f) ≡ finish op p i v c (caches m l (before entries) f) }
+    ensures { (m l f : List ℕ) → outcome result (caches m l entries.new f) ≡ finish op p i v c (caches m l entries.old f) }
 {
     let j = place(p, i);
     let e = Entry::unpack(entries[j]);
@@ -115,8 +117,8 @@ fn hit(
 }
 
 fn open_normal(memory: &mut Memory, entries: &mut Copies, d: Dims, p: usize, i: usize) -> u8
-    ensures { (l f : List ℕ) → counted result (caches (after memory) l (after entries) f) ≡
-        open_normal d p i (caches (before memory) l (before entries) f) }
+    ensures { (l f : List ℕ) → counted result (caches memory.new l entries.new f) ≡
+        open_normal d p i (caches memory.old l entries.old f) }
 {
     let j = place(p, i);
     let e = Entry::unpack(entries[j]);
@@ -137,8 +139,8 @@ fn open_normal(memory: &mut Memory, entries: &mut Copies, d: Dims, p: usize, i: 
 }
 
 fn clear_backup(memory: &mut Memory, entries: &mut Copies, d: Dims, p: usize, b: usize) -> u8
-    ensures { (l f : List ℕ) → counted result (caches (after memory) l (after entries) f) ≡
-        clear_backup d p b (caches (before memory) l (before entries) f) }
+    ensures { (l f : List ℕ) → counted result (caches memory.new l entries.new f) ≡
+        clear_backup d p b (caches memory.old l entries.old f) }
 {
     if b < d.entries {
         return caches::clear(memory, entries, p, b);
@@ -147,7 +149,7 @@ fn clear_backup(memory: &mut Memory, entries: &mut Copies, d: Dims, p: usize, b:
 }
 
 fn fill_backup(entries: &mut Copies, d: Dims, p: usize, b: usize, e: Entry)
-    ensures { after entries ≡ fill_backup d p b e (before entries) }
+    ensures { entries.new ≡ fill_backup d p b e entries.old }
 {
     if b < d.entries {
         let j = place(p, b);
@@ -167,8 +169,8 @@ fn fill(
     v: u32,
     w: u16,
 ) -> Answered
-    ensures { (m l f : List ℕ) → outcome result (caches m l (after entries) f) ≡
-        fill d op p i b word supplied v w (caches m l (before entries) f) }
+    ensures { (m l f : List ℕ) → outcome result (caches m l entries.new f) ≡
+        fill d op p i b word supplied v w (caches m l entries.old f) }
 {
     let state = filled_state(op);
     let tentative = Entry {
