@@ -1,6 +1,6 @@
 /* The proved replay machine, called from C or C++. Link
- * target/staticlib/libexports.a, which `rt staticlib exports` makes; it is code
- * for x86-64 Linux.
+ * target/staticlib/libexports.a, which `tests/archive` makes; it is code for
+ * x86-64 Linux.
  *
  * The whole machine is one array of 64-bit places, which the caller keeps. A call
  * copies it in, tests it and copies it out, and keeps nothing: calls on other

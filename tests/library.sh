@@ -1,6 +1,6 @@
 # shellcheck shell=sh disable=SC2154
 # The static library of the functions for C, and a compiler for what links it. Sourced after tests/suite.sh by the scripts that do. The
-# library is x86-64 code: on another machine what links it is compiled for that, and run by tests/built.
+# library is x86-64 code: on another machine what links it is compiled for that.
 # shellcheck source=tests/new.sh
 . "$top/tests/new.sh" || exit 1
 library=$top/target/staticlib/libexports.a
@@ -21,11 +21,10 @@ find_compiler() {
     find_program "$compiler" gcc-x86-64-linux-gnu
 }
 
-# To build it takes a minute even where nothing that it is built from has changed.
 library_is_new() { is_new "$library"; }
 
 # An old library is never linked.
 build_library() {
     rm -f "$library"
-    quiet_rt staticlib exports
+    quiet "$top/tests/archive"
 }

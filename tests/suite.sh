@@ -1,9 +1,9 @@
 # shellcheck shell=sh disable=SC2154
 # What the run scripts of the suites under tests/ and of bench/ share. They have set `top` and `build`. tests/gate/ tests it.
 
-# rt tells every crate that it proves: that is of use only where it fails.
-quiet_rt() { # ARGUMENT..
-    (cd "$top" && rt "$@" >"$build/rt.log" 2>&1) && return
+# rt tells all that it proves: that is of use only where it fails.
+quiet() { # COMMAND.. that has rt build
+    "$@" >"$build/rt.log" 2>&1 && return
     tail -n 20 "$build/rt.log"
     return 1
 }

@@ -15,8 +15,8 @@ ghost use Rattle.exports.specs.Handed.{handed, make_in, sound_in, step_lent, ste
 
 use crate::array::{dims_of, held_ok, machine_of, put_machine, put_parts};
 use crate::copying::wide_number;
-use crate::places::{ENTRIES_FROM, LINES_FROM};
 pub use crate::places::State;
+use crate::places::{ENTRIES_FROM, LINES_FROM};
 use entry::refusals::{ACCEPTED, NOT_SOUND};
 
 // initial is the memory that the caller gives. What the array held before does not matter.

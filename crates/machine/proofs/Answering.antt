@@ -1,14 +1,14 @@
 -- What each published function answers on each of its ways, over plain variables.
-use mathlib.Core.Path.{◌≡◌, ap, ◌∙◌}
+use mathlib.Core.Path.{◌≡◌, ap}
 use mathlib.Core.Bool.{true, false}
 use mathlib.Core.List.{List}
-use Prim.Native.Nat.{ℕ, ◌≤◌, ◌<◌}
-use borrow.Author.Tests.{eq-eqb, ne_eqb, lt-ltb, le-ltb}
-use Rattle.entry.specs.declared.answer.Answer.TheVariants.{Value, Refused}
+use Prim.Native.Nat.{ℕ, ◌<◌}
+use borrow.Author.Tests.{eq-eqb, ne_eqb, lt-ltb}
+use Rattle.entry.specs.declared.answer.Answer.TheVariants.{Value}
 use Rattle.entry.specs.declared.answer.Answered.{Answered}
 use Rattle.entry.specs.declared.step.Step.{Step}
 use Rattle.entry.specs.Answer.{refused_by}
-use Rattle.entry.specs.Refusals.{accepted, not_sound, no_such_word}
+use Rattle.entry.specs.Refusals.{accepted, not_sound}
 use Rattle.rules.specs.declared.Dims.{Dims}
 use Rattle.rules.specs.declared.Machine.{Machine}
 use Rattle.rules.specs.State.{Caches, Outcome, caches_of, machine_of, outcome}

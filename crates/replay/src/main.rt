@@ -2,6 +2,8 @@
 
 #![tactic(auto)]
 
-fn main() {
-    streams::replay_text(4, 16, 4, 4);
+use std::process::ExitCode;
+
+fn main(rt: HostRuntime) -> ExitCode {
+    streams::replay_text(&rt, 4, 16, 4, 4)
 }

@@ -4,7 +4,7 @@ use Rattle.laws.specs.Choice.{pick, both, either}
 use Rattle.laws.specs.Fold.{fold_range}
 use Rattle.laws.specs.Search.{first_from}
 use Rattle.entry.specs.declared.Entry.{Entry}
-use Rattle.entry.specs.Numbers.{RESERVED, DIRTY, TENTATIVE}
+use Rattle.entry.specs.Numbers.{DIRTY, TENTATIVE}
 use Rattle.entry.specs.Packing.{no_entry}
 use Rattle.entry.specs.Entry.{reserved_or_dirty, takes, snooped}
 use Rattle.rules.specs.declared.Dims.{Dims}

@@ -5,7 +5,7 @@ use Rattle.laws.specs.Choice.{pick, both}
 use Rattle.laws.specs.Fold.{fold_range}
 use Rattle.laws.specs.Search.{first_from}
 use Rattle.entry.specs.declared.Entry.{Entry}
-use Rattle.entry.specs.Numbers.{INVALID, RESERVED, DIRTY, BACKUP, TENTATIVE}
+use Rattle.entry.specs.Numbers.{INVALID, DIRTY, BACKUP, TENTATIVE}
 use Rattle.entry.specs.Packing.{packed_end, unpack}
 use Rattle.entry.specs.Entry.{reserved_or_dirty}
 use Rattle.rules.specs.declared.Dims.{Dims}

@@ -15,6 +15,7 @@ pub mod Store
 pub mod Slotted
 pub mod Access
 pub mod Normal
+pub mod Opened
 pub mod Miss
 pub mod Steps
 pub mod Operands
@@ -28,4 +29,5 @@ pub mod Fresh
 pub mod Kept
 pub mod Demand3
 pub mod Bound
+pub mod Storeless
 pub mod Unused

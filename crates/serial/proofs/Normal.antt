@@ -1,25 +1,20 @@
--- LT, LTX and ST on a NORMAL entry: it becomes tentative, with a backup or, written back if DIRTY, without.
-use mathlib.Core.Path.{◌≡◌, refl, sym, ◌∙◌, ap, subst, subst⁻¹}
+-- LT, LTX and ST on a NORMAL entry: it becomes tentative, with a backup or, written back if DIRTY, without. proofs/Opened.antt joins the two.
+use mathlib.Core.Path.{◌≡◌, refl, sym, ◌∙◌, ap, subst}
 use mathlib.Core.Logic.{◌≢◌, inr}
 use mathlib.Core.Bool.{Bool, true, false, true≢false, false≢true}
 use mathlib.Core.List.{List}
 use Prim.Native.Nat.{ℕ, ◌≤◌, ◌<◌}
 use native.Mathlib.Decide.{ℕ_discrete}
 use native.Mathlib.Omega.{arith}
-use lib.Dec.{eqb, ltb}
-use lib.ListN.{set}
-use lib.Seq.{set-set, set_comm}
-use borrow.Author.Tests.{ltb-true}
+use lib.Dec.{eqb}
 use Rattle.laws.specs.Choice.{pick}
 use Rattle.entry.specs.declared.Entry.{Entry}
 use Rattle.entry.specs.Numbers.{INVALID, RESERVED, DIRTY, NORMAL, BACKUP, TENTATIVE}
-use Rattle.entry.specs.Packing.{entry, no_entry, pack, InRange, unpack_range}
-use Rattle.entry.specs.Entry.{with_tag, with_state}
+use Rattle.entry.specs.Packing.{entry, InRange, unpack_range}
 use Rattle.rules.specs.declared.Dims.{Dims}
-use Rattle.rules.specs.State.{Caches, caches, place, entry_at, with_copy, with_entry, counted}
-use Rattle.rules.specs.Own.{home, free_slot}
-use Rattle.rules.specs.Snoop.{writes, written_back, clear_entry}
-use Rattle.rules.specs.Transact.{open_normal}
+use Rattle.rules.specs.State.{Caches, entry_at, with_entry}
+use Rattle.rules.specs.Own.{home}
+use Rattle.rules.specs.Snoop.{written_back, clear_entry}
 use Rattle.theory.specs.View.{LineState, valid, reserved, dirty, bare, backup, normal, tentative, dried}
 use Rattle.theory.specs.Change.{OnlyWord}
 use Rattle.theory.proofs.Moves.{at_trans}
@@ -33,7 +28,7 @@ use Rattle.serial.proofs.Frame.{EntryFits, Fits, fits_word}
 use Rattle.serial.proofs.Set.{Fit, entry_on, Memory, memory_same, back_at, back_here, set_slot, entry_fit}
 use Rattle.serial.proofs.Codes.{dirty_code, tagged_fits}
 use Rattle.serial.proofs.Find.{entry_fits, slot_at, slot_normal_at}
-use Rattle.serial.proofs.Slotted.{free_slot_usable, Emptied, clear_emptied}
+use Rattle.serial.proofs.Slotted.{Emptied, clear_emptied}
 
 -- an entry of a word of the machine
 pub entry_range : {W : ℕ} (x t w v : ℕ) → x < 4 → t < 4 → w < W → W ≤ 256 → v < value_end → InRange (entry x t w v)
@@ -123,10 +118,6 @@ alone_code x l n = by (eqb x DIRTY)
     by true = (omega arith, (λ z. omega arith))
     by false = (l, n)
 
--- the two entries set in one order are the slot freed, the tentative entry, and then the backup
-three : (l : List ℕ) (i b : ℕ) (x y z : ℕ) → b ≢ i → set (set l b y) i x ≡ set (set (set l b z) i x) b y
-three l i b x y z n = set_comm l b i y x n ∙ sym (ap (λ (k : List ℕ). set k b y) (set_comm l b i z x n) ∙ set-set (set l i x) b z y)
-
 module _ {d : Dims} {s : Caches} (F : Fit d s) (p : ℕ) (lp : p < d.processors) (w i : ℕ) (li : i < d.entries)
     (ht : (entry_at s p i).tag ≡ NORMAL) (hw : (entry_at s p i).word ≡ w) where
   abbrev e : Entry
@@ -139,7 +130,7 @@ module _ {d : Dims} {s : Caches} (F : Fit d s) (p : ℕ) (lp : p < d.processors)
   in_words = subst (λ (u : ℕ). u < d.words) hw (tagged_fits (entry_fits F p lp i li) (λ z. omega arith)).word
 
   -- no slot for a backup
-  bare_begins : Began d p w i s
+  pub bare_begins : Began d p w i s
       (entry_on s (written_back s.memory (entry_at s p i)) p i (entry (alone (entry_at s p i).state) TENTATIVE w (entry_at s p i).«data»))
   bare_begins =
       let M = back_at F.frame e hw (fits_word (entry_fits F p lp i li)) (unpack_range _).«data» in
@@ -159,13 +150,13 @@ module _ {d : Dims} {s : Caches} (F : Fit d s) (p : ℕ) (lp : p < d.processors)
 
   -- slot b is freed for one
   module _ (b : ℕ) (lb : b < d.entries) (apart : b ≢ i) (nt : (entry_at s p b).tag ≢ TENTATIVE) where
-    abbrev s_a : Caches
+    abbrev pub s_a : Caches
     s_a = clear_entry s p b
 
-    abbrev s_b : Caches
+    abbrev pub s_b : Caches
     s_b = with_entry s_a p i (entry (entry_at s p i).state TENTATIVE w (entry_at s p i).«data»)
 
-    abbrev s_c : Caches
+    abbrev pub s_c : Caches
     s_c = with_entry s_b p b (entry (entry_at s p i).state BACKUP w (entry_at s p i).«data»)
 
     EA : Emptied d p b s s_a
@@ -180,7 +171,7 @@ module _ {d : Dims} {s : Caches} (F : Fit d s) (p : ℕ) (lp : p < d.processors)
     hw_a : (entry_at s_a p i).word ≡ w
     hw_a = ap (λ (x : Entry). x.word) same_i ∙ hw
 
-    backed : Began d p w i s s_c
+    pub backed : Began d p w i s s_c
     backed = record {
       fit = entry_fit FB.frame MB p b lp (entry x BACKUP w v) r_c lb (entry_of p b x BACKUP w v lp lb held₀ (λ z. omega arith) in_words) bu.0;
       begun = with_backup EA.freed (k_b.2 ∙ ap (λ (y : Entry). normal (state_of y.state) y.«data») same_i) (at_trans k_b.1 bu.1) bu.2
@@ -244,34 +235,3 @@ module _ {d : Dims} {s : Caches} (F : Fit d s) (p : ℕ) (lp : p < d.processors)
             (entry x BACKUP w v) r_c p i (omega (arith, F.frame.size.processors)) (omega (arith, F.frame.size.entries))
             (inr (λ z. apart (sym z))) ∙
             to_here FA p lp w i li ht_a hw_a MA x v lx held₀ lv
-
-  pub open_normal_began : Began d p w i s (open_normal d p i s).after
-  unfolding open_normal
-  open_normal_began = by (ltb b d.entries) refl
-    where
-      b : ℕ
-      b = free_slot s.entries p d.entries i
-
-      retagged : (t : ℕ) → with_tag e t ≡ entry e.state t w e.«data»
-      retagged t = ap (λ (u : ℕ). entry e.state t u e.«data») hw
-
-      by : (y : Bool) → ltb b d.entries ≡ y
-          → Began d p w i s
-          (pick y
-          (counted (writes (entry_at s p b))
-          (caches (written_back s.memory (entry_at s p b)) s.lines
-          (with_copy (with_copy s.entries p b (with_tag e BACKUP)) p i (with_tag e TENTATIVE)) s.flags))
-          (counted (writes e) (entry_on s (written_back s.memory e) p i (with_state (with_tag e TENTATIVE) (alone e.state))))).after
-      by true h =
-          let l = ltb-true b d.entries h in
-          let f = free_slot_usable s p d.entries i l in
-          subst⁻¹ (λ (es : List ℕ). Began d p w i s (caches (written_back s.memory (entry_at s p b)) s.lines es s.flags))
-          (ap (λ (x : Entry). with_copy (with_copy s.entries p b x) p i (with_tag e TENTATIVE)) (retagged BACKUP) ∙
-          (ap (λ (x : Entry). with_copy (with_copy s.entries p b (entry e.state BACKUP w e.«data»)) p i x) (retagged TENTATIVE) ∙
-          three s.entries (place p i) (place p b) (pack (entry e.state TENTATIVE w e.«data»)) (pack (entry e.state BACKUP w e.«data»))
-          (pack no_entry)
-          (λ z. f.0 (omega (arith, F.frame.size.entries)))))
-          (backed b l f.0 f.1)
-      by false h =
-          subst⁻¹ (λ (x : Entry). Began d p w i s (entry_on s (written_back s.memory e) p i x))
-          (ap (λ (u : ℕ). entry (alone e.state) TENTATIVE u e.«data») hw) bare_begins

@@ -32,7 +32,7 @@ use Rattle.serial.proofs.Lined.{Unlined, drop_line_unlined}
 use Rattle.serial.proofs.Load.{load_does}
 use Rattle.serial.proofs.Store.{store_does}
 use Rattle.serial.proofs.Access.{Access, lt, ltx, st, number, hit_does}
-use Rattle.serial.proofs.Normal.{open_normal_began}
+use Rattle.serial.proofs.Opened.{open_normal_began}
 use Rattle.serial.proofs.Miss.{miss_does}
 
 -- TSTATUS is true, and p has no regular copy

@@ -9,18 +9,8 @@ use Rattle.entry.specs.Step.{step, uses_word, uses_value}
 use Rattle.rules.specs.declared.Dims.{Dims}
 use Rattle.rules.specs.declared.Machine.{Machine}
 use Rattle.rules.specs.State.{Caches, caches_of, Outcome}
-use Rattle.rules.specs.Transact.{finish, hit, fill, request, miss_at, miss, seek, transact}
 use Rattle.rules.specs.Step.{operands_refusal, narrowed, take_step, step_of}
-
--- LT and LTX store nothing
-module _ (d : Dims) (p w v v' : ℕ) (s : Caches) where
-  lt_unused : transact d LT p w v s ≡ transact d LT p w v' s
-  unfolding transact seek hit miss miss_at request fill finish
-  lt_unused = refl
-
-  ltx_unused : transact d LTX p w v s ≡ transact d LTX p w v' s
-  unfolding transact seek hit miss miss_at request fill finish
-  ltx_unused = refl
+use Rattle.serial.proofs.Storeless.{lt_unused, ltx_unused}
 
 module _ (d : Dims) (op p : ℕ) where
   operands_unused : uses_word op ≡ false → (w w' v : ℕ) → operands_refusal d (step op p w v) ≡ operands_refusal d (step op p w' v)

@@ -2,11 +2,16 @@
 
 #![tactic(auto)]
 
+mod faults;
+
 ghost use Rattle.std.specs.Prelude.{◌≡◌, length};
 ghost use Rattle.io.specs.Counts.{IsPrefixLen};
 
-use libc::{STDIN_FILENO, STDOUT_FILENO};
+use crate::faults::tell;
 use listing::Replaying;
+use std::io;
+use std::io::{ErrorKind, Read, Write};
+use std::process::ExitCode;
 
 fn input_buffer() -> [u8; 4194305]
     ensures { 4194305 ≡ length result }
@@ -14,80 +19,102 @@ fn input_buffer() -> [u8; 4194305]
     [0; 4194305]
 }
 
-// How many bytes came, and whether a read failed before the input was full or at its end.
+fn output_buffer() -> [u8; 65536]
+    ensures { 65536 ≡ length result }
+{
+    [0; 65536]
+}
+
+// How many bytes came, and the error of a read that failed before the input was full or at its end.
 #[derive(Clone, Copy)]
 struct Came {
     bytes: usize,
-    failed: bool,
+    failed: Option<io::Error>,
 }
 
-fn read_text(input: &mut [u8]) -> Came
+fn read_text<R: Read>(reader: &mut R, input: &mut [u8]) -> Came
     ensures { IsPrefixLen result.bytes input.new }
 {
     let mut bytes = 0;
     while bytes < input.len() {
-        let got = libc::read(STDIN_FILENO, &mut input[bytes..]);
-        let more = io::count(got, input);
-        if more == 0 {
-            return Came {
-                bytes,
-                failed: got < 0,
-            };
+        match reader.read(&mut input[bytes..]) {
+            Ok(0) => break,
+            Ok(more) => bytes += more,
+            Err(error) => {
+                return Came {
+                    bytes,
+                    failed: Some(error),
+                };
+            }
         }
-        bytes += more;
     }
     Came {
         bytes,
-        failed: false,
+        failed: None,
     }
 }
 
 // A reader that stops early is no fault.
-fn write_piece(piece: &[u8]) -> bool {
-    let written = io::write_all(STDOUT_FILENO, piece);
-    if !written && os::errno() != libc::EPIPE {
-        os::fail(b"writing standard output failed");
+fn write_piece<W: Write>(writer: &mut W, piece: &[u8]) -> io::Result<bool> {
+    match writer.write_all(piece) {
+        Ok(()) => Ok(true),
+        Err(error) if error.kind() == ErrorKind::BrokenPipe => Ok(false),
+        Err(error) => Err(error),
     }
-    written
 }
 
 // Whether a piece's bytes came through, and there were any.
-fn pass_on(out: &[u8], used: usize) -> bool {
+fn pass_on<W: Write>(writer: &mut W, out: &[u8], used: usize) -> io::Result<bool> {
     if used == 0 {
-        return false;
+        return Ok(false);
     }
     if used > out.len() {
-        return false;
+        return Ok(false);
     }
-    write_piece(&out[..used])
+    write_piece(writer, &out[..used])
 }
 
-// A proved loop has to end. So this one counts its turns down, from a number that no listing uses up: a piece that writes nothing is the
-// last.
-fn write_pieces(s: &[u8], out: &mut [u8], first: Replaying) {
+// A proved loop has to end. So this one has a number of turns that no listing uses up: a piece that writes nothing is the last.
+fn write_pieces<W: Write>(
+    writer: &mut W,
+    s: &[u8],
+    out: &mut [u8],
+    first: Replaying,
+) -> io::Result<()> {
     let mut x = first;
-    let mut turns = u64::MAX;
-    while turns > 0 {
+    for _ in 0..u64::MAX {
         let p = listing::next_piece(s, out, x);
-        if !pass_on(out, p.used) {
-            return;
+        if !pass_on(writer, out, p.used)? {
+            break;
         }
         x = p.replaying;
-        turns -= 1;
     }
+    Ok(())
 }
 
 // The first 4,194,305 bytes decide the listing: the record that holds the last of them ends the reading. A log that a fault cut short has no
 // listing.
-pub fn replay_text(processors: usize, words: usize, lines: usize, entries: usize) {
+pub fn replay_text(
+    rt: &(impl Input + Print + Eprint),
+    processors: usize,
+    words: usize,
+    lines: usize,
+    entries: usize,
+) -> ExitCode {
     let mut input = input_buffer();
-    let came = read_text(&mut input);
-    if came.failed {
-        os::fail(b"reading standard input failed");
-        return;
+    let came = read_text(&mut rt.reader(), &mut input);
+    if let Some(error) = came.failed {
+        tell(rt, "reading standard input failed", error);
+        return ExitCode::FAILURE;
     }
     let n = came.bytes;
-    let mut out = io::large_buffer();
+    let mut out = output_buffer();
     let x = listing::begin(&input[..n], processors, words, lines, entries);
-    write_pieces(&input[..n], &mut out, x);
+    match write_pieces(&mut io::writer(rt), &input[..n], &mut out, x) {
+        Ok(()) => ExitCode::SUCCESS,
+        Err(error) => {
+            tell(rt, "writing standard output failed", error);
+            ExitCode::FAILURE
+        }
+    }
 }

@@ -1,8 +1,6 @@
-use Prim.Native.Nat.{◌-◌}
 use mathlib.Core.Path.{◌∙◌, sym}
 use native.Mathlib.Nat.{sub-zero}
 use Rattle.laws.specs.Places.{apply_end, apply_turn}
-use Rattle.entry.specs.Entry.{committed}
 use Rattle.rules.specs.Rollback.{committed_entries}
 use borrow.Author.Rules.{rules}
 use Rattle.caches.proofs.commit_entries.Goals as goal

@@ -1,8 +1,6 @@
-use Prim.Native.Nat.{◌-◌}
 use mathlib.Core.Path.{◌∙◌, sym}
 use native.Mathlib.Nat.{sub-zero}
 use Rattle.laws.specs.Places.{apply_end, apply_turn}
-use Rattle.entry.specs.Entry.{rolled_back}
 use Rattle.rules.specs.Rollback.{rolled_entries, status_down}
 use borrow.Author.Rules.{rules}
 use Rattle.caches.proofs.rollback.Goals as goal

@@ -1,4 +1,3 @@
-use Prim.Native.Nat.{◌-◌}
 use mathlib.Core.Path.{refl, ◌∙◌, sym}
 use Rattle.laws.specs.Fold.{fold_end, fold_turn}
 use Rattle.snoop.proofs.Together.{plain_together}

@@ -1,4 +1,4 @@
-use Rattle.rules.specs.Transact.{finish, fill}
+use Rattle.rules.specs.Transact.{fill}
 use Rattle.transact.proofs.fill.Goals as goal
 
 pub returns : goal.returns

@@ -3,7 +3,7 @@ use mathlib.Core.List.{[]}
 use lib.Dec.{eqb}
 use Rattle.entry.specs.Numbers.{VALID, LT}
 use Rattle.rules.specs.State.{Caches, copy_at}
-use Rattle.rules.specs.Transact.{finish, hit}
+use Rattle.rules.specs.Transact.{hit}
 use Rattle.transact.proofs.Asked.{silent, asks, refused, passed}
 use Rattle.transact.proofs.hit.Goals as goal
 

@@ -1,4 +1,4 @@
-use Rattle.rules.specs.Transact.{request, miss_at}
+use Rattle.rules.specs.Transact.{miss_at}
 use Rattle.transact.proofs.miss_at.Goals as goal
 
 pub returns : goal.returns

@@ -1,7 +1,7 @@
 use mathlib.Core.Path.{ap}
 use mathlib.Core.List.{[]}
 use Rattle.rules.specs.State.{Caches}
-use Rattle.rules.specs.Transact.{fill, request}
+use Rattle.rules.specs.Transact.{request}
 use Rattle.transact.proofs.Asked.{refused, passed}
 use Rattle.transact.proofs.request.Goals as goal
 

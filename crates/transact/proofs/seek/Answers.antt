@@ -1,6 +1,6 @@
 use Rattle.caches.proofs.Live.{tentative_own, normal_own}
 use borrow.Author.Tests.{lt-ltb, le-ltb}
-use Rattle.rules.specs.Transact.{hit, miss, seek}
+use Rattle.rules.specs.Transact.{seek}
 use Rattle.transact.proofs.seek.Goals as goal
 
 pub returns-then-own : goal.returns-then-own

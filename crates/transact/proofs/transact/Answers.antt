@@ -1,5 +1,5 @@
 use borrow.Author.Tests.{eq-eqb, ne_eqb}
-use Rattle.rules.specs.Transact.{seek, transact}
+use Rattle.rules.specs.Transact.{transact}
 use Rattle.transact.proofs.transact.Goals as goal
 
 pub returns-then-flags-status-eq0 : goal.returns-then-flags-status-eq0

@@ -1,5 +1,4 @@
 use mathlib.Core.Path.{sym}
-use Prim.Native.Nat.{◌-◌}
 use borrow.Author.Rules.{rules}
 use Rattle.exports.proofs.Tested.{above_hit, above_miss, above_end}
 use Rattle.exports.proofs.array.none_above.Goals as goal

@@ -1,5 +1,4 @@
 use mathlib.Core.Path.{refl}
-use Prim.Native.Nat.{◌-◌}
 use borrow.Author.Rules.{rules}
 use Rattle.exports.specs.Array.{part}
 use Rattle.exports.proofs.Copied.{read_turn, read_end}

@@ -1,5 +1,4 @@
 use mathlib.Core.Path.{refl}
-use Prim.Native.Nat.{◌-◌}
 use borrow.Author.Rules.{rules}
 use Rattle.exports.specs.Array.{flags_from, flags_end, part}
 use Rattle.exports.proofs.Tested.{none_above_at}

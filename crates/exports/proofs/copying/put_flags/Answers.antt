@@ -1,5 +1,4 @@
 use mathlib.Core.Path.{refl}
-use Prim.Native.Nat.{◌-◌}
 use borrow.Author.Rules.{rules}
 use Rattle.exports.specs.Array.{flags_from, part}
 use Rattle.exports.proofs.Copied.{put_first}

@@ -1,5 +1,4 @@
 use Rattle.rules.specs.Making.{padded}
-use Prim.Native.Nat.{◌-◌}
 use mathlib.Core.Path.{◌∙◌, sym}
 use native.Mathlib.Omega.{arith}
 use mathlib.Core.Path.{ap}

@@ -1,5 +1,4 @@
 use Rattle.rules.specs.Settled.{settler}
-use Prim.Native.Nat.{◌-◌}
 use mathlib.Core.Path.{◌∙◌, sym}
 use native.Mathlib.Nat.{sub-zero}
 use native.Mathlib.Omega.{arith}

@@ -1,6 +1,5 @@
 use Rattle.runs.proofs.Lengths.{written_same, in_steps, in_columns}
 use Rattle.runs.proofs.Turns.{ran_out, halts, takes_turn}
-use Prim.Native.Nat.{◌-◌}
 use mathlib.Core.Path.{refl, sym, ◌∙◌}
 use native.Mathlib.Omega.{arith}
 use lib.ListN.{length}

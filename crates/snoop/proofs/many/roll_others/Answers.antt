@@ -1,8 +1,7 @@
-use Prim.Native.Nat.{◌-◌}
 use mathlib.Core.Path.{refl, ◌∙◌, sym}
 use native.Mathlib.Nat.{sub-zero}
 use Rattle.laws.specs.Fold.{fold_end, fold_turn}
-use Rattle.rules.specs.Snoop.{roll_one, roll_others}
+use Rattle.rules.specs.Snoop.{roll_others}
 use borrow.Author.Rules.{rules}
 use Rattle.snoop.proofs.many.roll_others.Goals as goal
 

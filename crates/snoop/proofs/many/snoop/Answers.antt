@@ -1,7 +1,6 @@
-use Prim.Native.Nat.{◌-◌}
 use mathlib.Core.Path.{refl, ◌∙◌, sym}
 use Rattle.laws.specs.Fold.{fold_end, fold_turn}
-use Rattle.rules.specs.Snoop.{snoop_one, snoop}
+use Rattle.rules.specs.Snoop.{snoop}
 use borrow.Author.Rules.{rules}
 use Rattle.snoop.proofs.many.snoop.Goals as goal
 

@@ -1,6 +1,5 @@
 use borrow.Author.Tests.{eq-eqb}
 use mathlib.Core.Path.{◌∙◌, sym}
-use Prim.Native.Nat.{◌-◌}
 use native.Mathlib.Omega.{arith}
 use Rattle.laws.specs.Search.{first_miss}
 use Rattle.sound.proofs.Every.{every_stopped, every_ended}

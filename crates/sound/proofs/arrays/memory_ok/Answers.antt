@@ -1,6 +1,5 @@
 use borrow.Author.Tests.{ne_eqb, eq-eqb}
 use mathlib.Core.Path.{◌∙◌, sym}
-use Prim.Native.Nat.{◌-◌}
 use Rattle.laws.specs.Search.{first_miss}
 use Rattle.sound.proofs.Every.{every_stopped, every_ended}
 use Rattle.rules.specs.SoundTest.{memory_ok}

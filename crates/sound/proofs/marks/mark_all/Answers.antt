@@ -1,5 +1,4 @@
 use mathlib.Core.Path.{refl, ◌∙◌, sym}
-use Prim.Native.Nat.{◌-◌}
 use Rattle.laws.specs.Fold.{fold_end, fold_turn}
 use Rattle.rules.specs.SoundTest.{mark_all}
 use borrow.Author.Rules.{rules}

@@ -1,0 +1,18 @@
+// What is told of a read or a write that failed.
+
+use std::io::{Cursor, Write};
+use std::{io, str};
+
+// Writes a line to standard error: what failed, and the system's words for why, without the number that the library adds to them. Where that
+// fails too, nothing can be told.
+pub(crate) fn tell(rt: &impl Eprint, what: &str, error: io::Error) {
+    let mut cursor = Cursor::new([0u8; 256]);
+    let _ = write!(cursor, "{error}");
+    let bytes = cursor.into_inner();
+    let words = str::from_utf8(&bytes).unwrap_or("");
+    let why = match words.split_once(" (os error ") {
+        Some((front, _)) => front,
+        None => words,
+    };
+    let _ = eprintln!(rt; "{what}: {why}");
+}
