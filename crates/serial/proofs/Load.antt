@@ -23,7 +23,7 @@ use Rattle.theory.proofs.Cache.{main_on}
 use Rattle.theory.proofs.Slots.{look_none}
 use Rattle.theory.proofs.Lines.{LineIs}
 use Rattle.theory.proofs.Agree.{rolled_back_tentative}
-use Rattle.theory.specs.Protocol.{load_hit, load_back, load_miss_lem, load_bare, Fetched, Plainly, reading, is_regular, RolledBack}
+use Rattle.theory.specs.Protocol.{load_hit, load_back, load_miss, load_bare, Fetched, Plainly, reading, is_regular, RolledBack}
 use Rattle.theory.proofs.Refine.{same_refl, freed_none}
 use Rattle.serial.specs.Shown.{by_load}
 use Rattle.serial.specs.Taking.{value_end}
@@ -148,7 +148,7 @@ module _ {d : Dims} {s : Caches} (F : Fit d s) (p : ℕ) (lp : p < d.processors)
       by false e =
           let g = is_none ((seen d s).copy w p) nr (no_normal F p lp w (ltb-false i d.entries e)) nt in
           let x = load_miss_fetched F p lp w lw g in
-          record { fit = x.0; step = load_miss_lem g x.1 }
+          record { fit = x.0; step = load_miss g x.1 }
 
   -- a tentative copy above VALID: rollback, and then its backup, or a miss
   module _ {x : LineState} {y : ℕ} {b : Back} {t : Bool} (was : (seen d s).copy w p ≡ tentative x y b t) (high : above x ≡ true) where

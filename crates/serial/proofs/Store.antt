@@ -27,7 +27,7 @@ use Rattle.theory.proofs.Slots.{look_none}
 use Rattle.theory.proofs.Lines.{LineIs, line_main}
 use Rattle.theory.proofs.Updates.{AllTidy, normal_gone}
 use Rattle.theory.proofs.Agree.{rolled_back_tentative}
-use Rattle.theory.specs.Protocol.{store_hit, store_through_lem, store_miss_lem, Plainly, owning, is_normal}
+use Rattle.theory.specs.Protocol.{store_hit, store_through, store_miss, Plainly, owning, is_normal}
 use Rattle.theory.specs.Protocol.{Unheld, none_held, was_held, Unnormal, none_normal, was_normal}
 use Rattle.theory.proofs.Refine.{same_refl, freed_none}
 use Rattle.serial.specs.Shown.{by_store}
@@ -166,7 +166,7 @@ module _ {d : Dims} (p : ℕ) (lp : p < d.processors) (w : ℕ) (lw : w < d.word
     unfolding Store.store_through
     through_does n x = record {
       fit = lined_fit F₂ p lp w h refl M (entry RESERVED INVALID w v) r f refl old₂ free₂;
-      step = store_through_lem U N
+      step = store_through U N
           (has_regular F p lp w line refl o ∙ ap (λ (c : ℕ). regular (state_of c) line.«data») (eqb-true line.state VALID x)) request.1
           (lined_at F₂ p lp w h refl M (entry RESERVED INVALID w v) r f refl old₂ free₂)
           (lined_regular F₂ p lp w h refl M (entry RESERVED INVALID w v) r f refl old₂ free₂ refl)
@@ -208,7 +208,7 @@ module _ {d : Dims} (p : ℕ) (lp : p < d.processors) (w : ℕ) (lw : w < d.word
   unfolding Store.store_miss
   miss_does n gone = record {
     fit = lined_fit F₂ p lp w h refl M (entry DIRTY INVALID w v) r f refl old free;
-    step = store_miss_lem U N gone ev.freed request.1 (lined_at F₂ p lp w h refl M (entry DIRTY INVALID w v) r f refl old free)
+    step = store_miss U N gone ev.freed request.1 (lined_at F₂ p lp w h refl M (entry DIRTY INVALID w v) r f refl old free)
         (lined_regular F₂ p lp w h refl M (entry DIRTY INVALID w v) r f refl old free refl) refl;
   }
     where

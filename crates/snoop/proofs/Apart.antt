@@ -83,7 +83,7 @@ module _ (q k : ℕ) (hq : q < 8) (hk : k < 8) (ne : q ≢ k) where
     snoop_keeps s t e =
         kept_first k s.entries t.entries (λ j. ap (λ (x : Caches). get_or x.entries (place k j) 0) e ∙ snoop_kept s j) d.entries p word
 
--- A loop's turn q, in which q's first entry is IsNoted.
+-- A loop's turn q, in which q's first entry is noted.
 pub note : (d : Dims) (p word : ℕ) (l es : List ℕ) (q v : ℕ) → q < d.processors → length l ≡ 8 → v ≡ first_of d.entries p word es q →
     IsNoted d p word l es q → IsNoted d p word (set l (q % 8) v) es (q + 1)
 note d p word l es q v lt len e h few k to = by (ℕ_discrete k q)
@@ -95,7 +95,7 @@ note d p word l es q v lt len e h few k to = by (ℕ_discrete k q)
     by (yes z) = rw (z, at) (get_or-set_same l q v 0 (omega arith) ∙ e)
     by (no z) = rw at (get_or-set_other l q k v 0 z ∙ h few k (omega arith))
 
--- What is IsNoted of the processors from q on, and what is IsLeft of it where q has snooped.
+-- What is noted of the processors from q on, and what is left of it where q has snooped.
 abbrev pub IsLeft : Dims → ℕ → ℕ → List ℕ → List ℕ → ℕ → Type 0
 IsLeft d p word l es q = (k : ℕ) → q ≤ k → k < d.processors → get_or l k 0 ≡ first_of d.entries p word es k
 

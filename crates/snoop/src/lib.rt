@@ -1,4 +1,4 @@
-// What a request of processor p does to the others. Each other's entries are searched once: what deciding on the request finds is IsNoted, and
+// What a request of processor p does to the others. Each other's entries are searched once: what deciding on the request finds is noted, and
 // the snooping starts from there.
 
 #![tactic(auto)]
@@ -25,7 +25,7 @@ fn own_places(d: Dims) -> bool
     d.processors <= 8
 }
 
-// The first other processor that the request meets opposed. Of every one before it the first entry is IsNoted.
+// The first other processor that the request meets opposed. Of every one before it the first entry is noted.
 fn first_opposing(
     entries: &Copies,
     firsts: &mut Firsts,
@@ -66,7 +66,7 @@ fn snoop_noted(
     cycle: u8,
 )
     requires processors_bound { d.processors ≤ 8 }
-    requires IsNoted { IsNoted d p word firsts.now entries.old d.processors }
+    requires noted { IsNoted d p word firsts.now entries.old d.processors }
     ensures { (f : List ℕ) → caches memory.new lines.new entries.new f ≡
         snoop d p word cycle (caches memory.old lines.old entries.old f) }
 {

@@ -3,16 +3,21 @@
 use std::io::{Cursor, Write};
 use std::{io, str};
 
+// What stands before the mark; all, where it does not stand.
+fn up_to<'a>(words: &'a str, mark: &str) -> &'a str {
+    match words.split_once(mark) {
+        Some((front, _)) => front,
+        None => words,
+    }
+}
+
 // Writes a line to standard error: what failed, and the system's words for why, without the number that the library adds to them. Where that
 // fails too, nothing can be told.
 pub(crate) fn tell(rt: &impl Eprint, what: &str, error: io::Error) {
     let mut cursor = Cursor::new([0u8; 256]);
     let _ = write!(cursor, "{error}");
     let bytes = cursor.into_inner();
-    let words = str::from_utf8(&bytes).unwrap_or("");
-    let why = match words.split_once(" (os error ") {
-        Some((front, _)) => front,
-        None => words,
-    };
+    let words = up_to(str::from_utf8(&bytes).unwrap_or(""), "\0");
+    let why = up_to(words, " (os error ");
     let _ = eprintln!(rt; "{what}: {why}");
 }

@@ -5,7 +5,7 @@ use mathlib.Core.Bool.{true, false, true≢false}
 use Prim.Native.Nat.{ℕ}
 use native.Mathlib.Decide.{ℕ_discrete}
 use Rattle.theory.specs.View.{bare, backup, Copy, none, regular, normal, tentative, is_tentative, own_value, rolled_copy, committed_copy, Word, View}
-use Rattle.theory.proofs.Move.{Move, moved, drop_regular, drop_normal_lem, drop_backup, lower_regular, lower_normal, begin_backed}
+use Rattle.theory.proofs.Move.{Move, moved, drop_regular, drop_normal, drop_backup, lower_regular, lower_normal, begin_backed}
 use Rattle.theory.proofs.Move.{begin_bare, fill_regular, fill_tentative, fill_backed, own_regular, own_tentative, own_backed, upgrade}
 use Rattle.theory.proofs.OneWord.{Low, Alone, rolled, committed_word}
 use Rattle.theory.specs.Change.{Live, OnlyWord, OnlyProcessor, same}
@@ -49,7 +49,7 @@ agree_at {S} {S'} {M} {M'} p w A at W e l = record { words = ws; live = lv }
 pub move_live : {live low alone : Type 0} {m m' : ℕ} {k k' : Copy} → Move live low alone m k m' k' → (is_tentative k ≡ true → live)
     → is_tentative k' ≡ true → live
 move_live drop_regular g h = g h
-move_live drop_normal_lem g h = g h
+move_live drop_normal g h = g h
 move_live drop_backup g h = g h
 move_live lower_regular g h = g h
 move_live lower_normal g h = g h

@@ -7,7 +7,7 @@ use Prim.Native.Nat.{ℕ}
 use native.Mathlib.Decide.{ℕ_discrete}
 use Rattle.theory.specs.View.{LineState, valid, reserved, dirty, Copy, none, regular, normal, tentative}
 use Rattle.theory.specs.View.{dirty_state, is_tentative, exclusive, owns, IsFine, own_value, Word, View}
-use Rattle.theory.proofs.Move.{Move, drop_regular, drop_normal_lem, drop_backup, lower_regular, lower_normal, begin_backed, begin_bare}
+use Rattle.theory.proofs.Move.{Move, drop_regular, drop_normal, drop_backup, lower_regular, lower_normal, begin_backed, begin_bare}
 use Rattle.theory.proofs.Move.{fill_regular, fill_tentative, fill_backed, own_regular, own_tentative, own_backed, upgrade}
 use Rattle.theory.proofs.OneWord.{Alone, stored_tentative, stored, low_cell, alone_low, released, clean_value}
 use Rattle.theory.specs.Event.{Event, store, tread}
@@ -27,7 +27,7 @@ pub record Inv (S : View) (P : Plain) : Type 0 where
 pub move_value : {live low alone : Type 0} {m m' x : ℕ} {k k' : Copy} → Move live low alone m k m' k' → IsFine k x → (low → owns k ≡ false → m ≡ x)
     → (alone → low) → own_value k' x ≡ own_value k x
 move_value drop_regular f g w = refl
-move_value drop_normal_lem f g w = refl
+move_value drop_normal f g w = refl
 move_value drop_backup f g w = refl
 move_value lower_regular f g w = refl
 move_value lower_normal f g w = refl
@@ -43,7 +43,7 @@ move_value (upgrade z) f g w = refl
 
 pub move_keeps : {live low alone : Type 0} {m m' : ℕ} {k k' : Copy} → Move live low alone m k m' k' → Keeps k k'
 move_keeps drop_regular = ((λ h. h), (λ h. h))
-move_keeps drop_normal_lem = ((λ h. h), (λ h. h))
+move_keeps drop_normal = ((λ h. h), (λ h. h))
 move_keeps drop_backup = ((λ h. h), (λ h. h))
 move_keeps lower_regular = ((λ h. h), (λ h. h))
 move_keeps lower_normal = ((λ h. h), (λ h. h))
@@ -204,7 +204,7 @@ inv_shown {S} {S'} {P} I (drops p none_tentative c) = (
   },
 )
 
--- what a processor is answered it SeesValue in its log: its transaction is sound, as it holds the word tentatively
+-- what a processor is answered it sees in its log: its transaction is sound, as it holds the word tentatively
 sees_shown : {S S' : View} {P : Plain} {e : Event} → Inv S P → Shown S S' e → Sees e P
 sees_shown {S} {P = P} I (loads p w {x} e h) = sees_fine (S.copy w p) x (P.val w) h ((I.agree.words w).holds p)
 sees_shown I (stores p w at was u here) = tt

@@ -11,7 +11,7 @@ use Rattle.theory.proofs.OneWord.{Alone, Low, alone_low, back_raise, below_self,
 -- `low`: no other processor's copy is exclusive; `alone`: no other processor has a copy; `live`: it is in a sound transaction
 pub data Move (live low alone : Type 0) : ℕ → Copy → ℕ → Copy → Type 0 where
   drop_regular : {m d : ℕ} {s : LineState} → Move live low alone m (regular s d) (wrote s d m) none
-  drop_normal_lem : {m d : ℕ} {s : LineState} → Move live low alone m (normal s d) (wrote s d m) none
+  drop_normal : {m d : ℕ} {s : LineState} → Move live low alone m (normal s d) (wrote s d m) none
   drop_backup : {m d e : ℕ} {s r : LineState} {f : Bool} → Move live low alone m (tentative s d (backup r e) f) (wrote r e m) (tentative s d bare f)
   lower_regular : {m d : ℕ} {s : LineState} → Move live low alone m (regular s d) (wrote s d m) (regular valid d)
   lower_normal : {m d : ℕ} {s : LineState} → Move live low alone m (normal s d) (wrote s d m) (normal valid d)
@@ -39,7 +39,7 @@ wrote_is dirty f g = f
 pub move_exclusive : {live low alone : Type 0} {m m' : ℕ} {k k' : Copy} → Move live low alone m k m' k' → exclusive k' ≡ true
     → (exclusive k ≡ true) ⊎ alone
 move_exclusive drop_regular h = absurd (false≢true h)
-move_exclusive drop_normal_lem h = absurd (false≢true h)
+move_exclusive drop_normal h = absurd (false≢true h)
 move_exclusive drop_backup h = inl h
 move_exclusive lower_regular h = absurd (false≢true h)
 move_exclusive lower_normal h = absurd (false≢true h)
@@ -55,7 +55,7 @@ move_exclusive (upgrade z) h = inr z
 
 pub move_none : {live low alone : Type 0} {m m' : ℕ} {k k' : Copy} → (alone → low) → Move live low alone m k m' k' → has k ≡ false → (k' ≡ none) ⊎ low
 move_none w drop_regular h = absurd (true≢false h)
-move_none w drop_normal_lem h = absurd (true≢false h)
+move_none w drop_normal h = absurd (true≢false h)
 move_none w drop_backup h = absurd (true≢false h)
 move_none w lower_regular h = absurd (true≢false h)
 move_none w lower_normal h = absurd (true≢false h)
@@ -72,7 +72,7 @@ move_none w (upgrade z) h = absurd (true≢false h)
 pub move_fine : {live low alone : Type 0} {m m' x : ℕ} {k k' : Copy} → Move live low alone m k m' k' → IsFine k x → (low → owns k ≡ false → m ≡ x)
     → (alone → low) → IsFine k' x
 move_fine drop_regular f g w = tt
-move_fine drop_normal_lem f g w = tt
+move_fine drop_normal f g w = tt
 move_fine drop_backup f g w = (f.0, f.1, tt)
 move_fine lower_regular f g w = f
 move_fine lower_normal f g w = f
@@ -90,7 +90,7 @@ move_fine {x = x} (upgrade {b = b} z) f g w =
 pub move_cell : {live low alone : Type 0} {m m' x : ℕ} {k k' : Copy} → Move live low alone m k m' k' → IsFine k x → (owns k ≡ false → m ≡ x)
     → owns k' ≡ false → m' ≡ x
 move_cell (drop_regular {s = s}) f g h = wrote_is s f g
-move_cell (drop_normal_lem {s = s}) f g h = wrote_is s f g
+move_cell (drop_normal {s = s}) f g h = wrote_is s f g
 move_cell (drop_backup {r = r}) f g h = wrote_is r f.2.0 g
 move_cell (lower_regular {s = s}) f g h = wrote_is s f g
 move_cell (lower_normal {s = s}) f g h = wrote_is s f g

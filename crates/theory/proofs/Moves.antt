@@ -1,4 +1,4 @@
--- What a machine may do, as its view SeesValue it: silent moves, and the events that a program can observe.
+-- What a machine may do, as its view sees it: silent moves, and the events that a program can observe.
 -- A step of a machine is any number of silent moves and then one event (or none).
 use mathlib.Core.Path.{◌≡◌, ◌∙◌}
 use mathlib.Core.Bool.{Bool, true, false}

@@ -7,7 +7,7 @@ use Prim.Native.Nat.{ℕ, ◌≤◌}
 use native.Mathlib.Decide.{ℕ_discrete}
 use Rattle.theory.specs.View.{LineState, valid, Back, bare, backup, Copy, none, regular, normal, tentative, above, is_tentative, View}
 use Rattle.theory.proofs.OneWord.{valid_clean}
-use Rattle.theory.proofs.Move.{drop_regular, drop_normal_lem, drop_backup, begin_backed, begin_bare}
+use Rattle.theory.proofs.Move.{drop_regular, drop_normal, drop_backup, begin_backed, begin_bare}
 use Rattle.theory.proofs.Move.{fill_regular, fill_tentative, fill_backed, own_tentative, own_backed, upgrade}
 use Rattle.theory.specs.Event.{Event, load, drop}
 use Rattle.theory.specs.Change.{Live, OnlyWord, OnlyProcessor, same, Same}
@@ -21,7 +21,7 @@ use Rattle.theory.proofs.Serve.{Far, Gives, Phase, by_grant, by_plain, rollback_
 pub freed_silent : {S S' : View} (p : ℕ) → Protocol.Freed p S S' → Silent S S'
 freed_silent p (Protocol.empty s) = still s
 freed_silent p (Protocol.regular_freed u at was here m) = move p u at refl m was here drop_regular
-freed_silent p (Protocol.normal_freed u at was here m) = move p u at refl m was here drop_normal_lem
+freed_silent p (Protocol.normal_freed u at was here m) = move p u at refl m was here drop_normal
 freed_silent p (Protocol.backup_freed u at was here m) = move p u at refl m was here drop_backup
 
 pub at_other : {S S' : View} {p u : ℕ} → OnlyWord p u S S' → (w q : ℕ) → q ≢ p → S'.copy w q ≡ S.copy w q
@@ -87,7 +87,7 @@ unheld_other {w = w} (Protocol.was_held h u) q n = u.cache.else w q n
 
 unnormal_run : {S S' : View} {p w : ℕ} → Protocol.Unnormal p w S S' → Run S [] S'
 unnormal_run (Protocol.none_normal h s) = run_one (still s)
-unnormal_run {p = p} {w = w} (Protocol.was_normal at was here m) = run_one (move p w at refl m was here drop_normal_lem)
+unnormal_run {p = p} {w = w} (Protocol.was_normal at was here m) = run_one (move p w at refl m was here drop_normal)
 
 unnormal_other : {S S' : View} {p w : ℕ} → Protocol.Unnormal p w S S' → (q : ℕ) → q ≢ p → S'.copy w q ≡ S.copy w q
 unnormal_other {w = w} (Protocol.none_normal h s) q n = s.copy_same w q
@@ -200,16 +200,16 @@ module _ {S : View} {M : ℕ → ℕ} (n : ℕ) (A : Agree S M) (within : (w p :
   step_run (Protocol.load_hit {p} {w} {x} h s) = shown (loads p w {x = x} s (hits_sees (S.copy w p) x h))
   step_run (Protocol.load_back {p} {w} {x} was u ud) =
       quietly (rollback_silent p ud) (shown (loads p w {x = x} same_refl (rw (ud.cache.here w, was) refl)))
-  step_run (Protocol.load_miss_lem {p} {w} {x} was g) = fetched_run n p w x (far p w) was g
+  step_run (Protocol.load_miss {p} {w} {x} was g) = fetched_run n p w x (far p w) was g
   step_run (Protocol.load_bare {p} {w} {x} was u ud g) =
       quietly (rollback_silent p ud) (fetched_run n p w x (far_rolled (far p w) ud) (ud.cache.here w ∙ rw was) g)
   step_run (Protocol.store_hit {p} {w} a b was u at here m) =
       run_then (unheld_run a) (run_then (unnormal_run b) (shown (stores p w at was u here)))
-  step_run (Protocol.store_through_lem {p} {w} a b was g at here m) =
+  step_run (Protocol.store_through {p} {w} a b was g at here m) =
       let s = by_plain Protocol.owning n p w (λ q l i. unnormal_other b q i ∙ (unheld_other a q i ∙ far p w q l i)) g in
       run_then (unheld_run a) (run_then (unnormal_run b)
       (run_then s.phase.runs (shown (writes p w at (rw (s.phase.keeps.copy_kept ∙ was)) s.gives here (λ h. m)))))
-  step_run (Protocol.store_miss_lem {p} {w} a b was fr g at here m) =
+  step_run (Protocol.store_miss {p} {w} a b was fr g at here m) =
       let s = by_plain Protocol.owning n p w (far_freed (λ q l i. unnormal_other b q i ∙ (unheld_other a q i ∙ far p w q l i)) fr) g in
       let was' = s.phase.keeps.copy_kept ∙ freed_none fr w was in
       run_then (unheld_run a) (run_then (unnormal_run b)

@@ -8,7 +8,7 @@ use native.Mathlib.Decide.{ℕ_discrete, dec_lt}
 use native.Mathlib.Omega.{arith}
 use Rattle.theory.specs.View.{valid, reserved, dirty, bare, backup, Copy, none, regular, normal, tentative, exclusive, rolled_copy, View}
 use Rattle.theory.proofs.OneWord.{Low, Alone}
-use Rattle.theory.proofs.Move.{drop_regular, drop_normal_lem, lower_regular, lower_normal}
+use Rattle.theory.proofs.Move.{drop_regular, drop_normal, lower_regular, lower_normal}
 use Rattle.theory.specs.Change.{OnlyWord, Same}
 use Rattle.theory.proofs.Moves.{Silent, still, move, rollback, Run, done, run_then, run_one}
 use Rattle.theory.proofs.Agree.{rolled_back_tentative}
@@ -55,7 +55,7 @@ snoop_silent {S} {S'} k p w q (Protocol.other n at e m) h = go k (S.copy w q) re
     go Protocol.reading (tentative dirty d b t) i r e m = absurd (true≢false r)
     go Protocol.owning none i r e m = still (at_still q w at (e ∙ sym i) m)
     go Protocol.owning (regular s d) i r e m = move q w at refl m i e drop_regular
-    go Protocol.owning (normal s d) i r e m = move q w at refl m i e drop_normal_lem
+    go Protocol.owning (normal s d) i r e m = move q w at refl m i e drop_normal
     go Protocol.owning (tentative s d b t) i r e m = absurd (true≢false r)
 
 module _ {f : Copy → Copy} {g : Copy → ℕ → ℕ} {p w q : ℕ} {S S' : View} where

@@ -196,14 +196,14 @@ pub data Step (n : ℕ) (S S' : View) : List Event → Type 0 where
   load_hit : {p w x : ℕ} → Hits (S.copy w p) x → Same S S' → Step n S S' (load p w x ∷ [])
   load_back : {p w x : ℕ} {s r : LineState} {d : ℕ} {t : Bool} → S.copy w p ≡ tentative s d (backup r x) t → above s ≡ true
       → RolledBack p S S' → Step n S S' (load p w x ∷ [])
-  load_miss_lem : {p w x : ℕ} → S.copy w p ≡ none → Fetched n p w x S S' → Step n S S' (load p w x ∷ [])
+  load_miss : {p w x : ℕ} → S.copy w p ≡ none → Fetched n p w x S S' → Step n S S' (load p w x ∷ [])
   load_bare : {p w x : ℕ} {s : LineState} {d : ℕ} {t : Bool} {S₁ : View} → S.copy w p ≡ tentative s d bare t → above s ≡ true
       → RolledBack p S S₁ → Fetched n p w x S₁ S' → Step n S S' (load p w x ∷ [])
   store_hit : {p w v : ℕ} {s : LineState} {d : ℕ} {S₁ S₂ : View} → Unheld p w S S₁ → Unnormal p w S₁ S₂ → S₂.copy w p ≡ regular s d
       → above s ≡ true → OnlyWord p w S₂ S' → S'.copy w p ≡ regular dirty v → S'.memory w ≡ S₂.memory w → Step n S S' (store p w v ∷ [])
-  store_through_lem : {p w v d : ℕ} {S₁ S₂ S₃ : View} → Unheld p w S S₁ → Unnormal p w S₁ S₂ → S₂.copy w p ≡ regular valid d
+  store_through : {p w v d : ℕ} {S₁ S₂ S₃ : View} → Unheld p w S S₁ → Unnormal p w S₁ S₂ → S₂.copy w p ≡ regular valid d
       → Plainly owning n p w S₂ S₃ → OnlyWord p w S₃ S' → S'.copy w p ≡ regular reserved v → S'.memory w ≡ v → Step n S S' (store p w v ∷ [])
-  store_miss_lem : {p w v : ℕ} {S₁ S₂ S₃ S₄ : View} → Unheld p w S S₁ → Unnormal p w S₁ S₂ → S₂.copy w p ≡ none → Freed p S₂ S₃
+  store_miss : {p w v : ℕ} {S₁ S₂ S₃ S₄ : View} → Unheld p w S S₁ → Unnormal p w S₁ S₂ → S₂.copy w p ≡ none → Freed p S₂ S₃
       → Plainly owning n p w S₃ S₄ → OnlyWord p w S₄ S' → S'.copy w p ≡ regular dirty v → S'.memory w ≡ S₄.memory w
       → Step n S S' (store p w v ∷ [])
   -- LT and LTX; ST; what all three do when refused, when there is no room, and with TSTATUS false
