@@ -87,7 +87,8 @@ read_end s l now from i n e h k =
     e ∙
     ap (λ (j : ℕ). sets s 0 (part from j l)) h ∙
     ext_get_or 0 (sets s 0 p) p (length-sets s 0 p ∙ k ∙ sym (part_length from n l))
-    (λ j b. ap (λ (m : ℕ). get_or (sets s 0 p) m 0) (sym (zero-add j)) ∙ sets_in s p 0 j (omega (arith, length-sets s 0 p, k, part_length from n l)) (omega (arith, k, part_length from n l)))
+    (λ j b. ap (λ (m : ℕ). get_or (sets s 0 p) m 0) (sym (zero-add j)) ∙
+    sets_in s p 0 j (omega (arith, length-sets s 0 p, k, part_length from n l)) (omega (arith, k, part_length from n l)))
   where
     p : List ℕ
     p = part from n l

@@ -4,7 +4,7 @@ use mathlib.Core.Bool.{Bool, true, false, not, true≢false}
 use mathlib.Core.List.{List}
 use Prim.Native.Nat.{ℕ, ◌+◌, ◌≤◌, ◌<◌}
 use native.Mathlib.Omega.{arith}
-use borrow.Author.Tests.{eq-eqb, ne_eqb, lt-ltb, le-ltb}
+use borrow.Author.Tests.{not-true, not-false, eq-eqb, ne_eqb, lt-ltb, le-ltb}
 use lib.Dec.{ltb, leb}
 use lib.ListN.{length}
 use lib.Seq.{sets}
@@ -65,6 +65,14 @@ module _ (s : List ℕ) (x : Place) (used : ℕ) (o : List ℕ) (room : used + m
   end_did n h ep ey c =
       let q = put_did (end_line x.commits x.cycles) o o' used k (omega (arith, (end_fair x.commits x.cycles).1)) ep in
       rw (ne_eqb x.phase HEADER n, ne_eqb x.phase REFUSAL h, ey, q.0, q.1)
+
+-- the test of the room, where the buffer is as long as it was
+module _ (used n : ℕ) (o : List ℕ) (b : Bool) (same : length o ≡ n) (e : b ≡ leb (used + most_line) n) where
+  pub no_room : not b ≡ true → leb (used + most_line) (length o) ≡ false
+  no_room t = rw same (sym e ∙ not-true b t)
+
+  pub some_room : not b ≡ false → leb (used + most_line) (length o) ≡ true
+  some_room t = rw same (sym e ∙ not-false b t)
 
 module _ (s : List ℕ) (d : Dims) where
   abbrev pub stop : Filling Going → Bool

@@ -1,3 +1,4 @@
+pub mod Cases
 pub mod Inside
 pub mod Tables
 pub mod Puts

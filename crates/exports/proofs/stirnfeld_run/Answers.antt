@@ -1,3 +1,4 @@
+use native.Mathlib.Omega.{arith}
 use mathlib.Core.Path.{sym, ◌∙◌}
 use Rattle.exports.specs.Handed.{run_in}
 use Rattle.exports.proofs.Tested.{held}
@@ -22,7 +23,7 @@ returns-then-h-ne0 c =
     let ok = sym c.held_ok.ensures ∙ c.if-not-held_ok.false in
     let e = machine_is _ _ _ _ _ _ c.dims_of-d.ensures c.memory_of-memory.ensures
     c.copies_of-lines.ensures c.copies_of-entries.ensures c.flags_of-flags.ensures in
-    ran_some _ ok _ _ _ c.dims_of-d.ensures _ e _ _ c.run_lent-h.ensures c.if-h-ne0.true _ c.put_parts.ensures
+    ran_some _ ok _ _ _ c.dims_of-d.ensures _ e _ _ c.run_lent-h.ensures (omega (arith, c.if-h-ne0.true)) _ c.put_parts.ensures
 
 pub returns-else-h-ne0 : goal.returns-else-h-ne0
 returns-else-h-ne0 c =
