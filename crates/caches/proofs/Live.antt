@@ -1,12 +1,10 @@
 -- What a processor's first NORMAL or tentative entry of a word says of its entries of either tag. Assumes nothing.
-use mathlib.Core.Path.{◌≡◌, refl, ◌∙◌, ap, sym}
-use mathlib.Core.Logic.{◌≢◌}
+use mathlib.Core.Path.{◌≡◌, refl, ◌∙◌, sym, subst}
 use mathlib.Core.Bool.{Bool, true, false, false≢true}
 use mathlib.Core.List.{List}
 use Prim.Native.Nat.{ℕ, ◌≤◌, ◌<◌}
 use native.Mathlib.Omega.{arith}
-use native.Mathlib.Decide.{ℕ_discrete}
-use borrow.Author.Tests.{eq-eqb, ne_eqb, lt-ltb, le-ltb}
+use borrow.Author.Tests.{eq-eqb, eqb-true, lt-ltb, le-ltb, ltb-true, ltb-false}
 use lib.Dec.{eqb, ltb}
 use Rattle.laws.specs.Choice.{pick, both, either, both_left, both_right}
 use Rattle.laws.specs.Search.{first_from, first_has, first_not, none_of}
@@ -14,8 +12,9 @@ use Rattle.entry.specs.Numbers.{NORMAL, TENTATIVE}
 use Rattle.rules.specs.State.{copy_at}
 use Rattle.rules.specs.Own.{has_entry, has_live, find_entry, live_entry}
 use Rattle.caches.specs.declared.Own.{Own}
-use Rattle.caches.specs.Own.{own, own_entry}
-use Rattle.caches.proofs.Round.{first_at}
+use Rattle.caches.specs.declared.Own.TheVariants.{Tentative, Normal, Nowhere}
+use Rattle.caches.specs.Own.{own_entry}
+use Rattle.caches.proofs.Found.{first_at}
 
 not_left : (a b c : Bool) → both (either a b) c ≡ false → both a c ≡ false
 not_left true b c e = e
@@ -26,12 +25,9 @@ not_right true true c e = e
 not_right false true c e = e
 not_right a false c e = refl
 
-either_tag : (t : ℕ) → t ≢ TENTATIVE → either (eqb t NORMAL) (eqb t TENTATIVE) ≡ true → t ≡ NORMAL
-either_tag t ne e = by (ℕ_discrete t NORMAL)
-  where
-    by : Dec (t ≡ NORMAL) → t ≡ NORMAL
-    by (yes y) = y
-    by (no z) = absurd (false≢true (rw (ne_eqb t NORMAL z, ne_eqb t TENTATIVE ne) at e))
+only_left : (a b : Bool) → b ≡ false → either a b ≡ true → a ≡ true
+only_left true b e h = refl
+only_left false b e h = absurd (false≢true (sym e ∙ h))
 
 module _ (es : List ℕ) (p n word : ℕ) where
   never_tentative : (k : ℕ) → has_live es p word k ≡ false → has_entry es p TENTATIVE word k ≡ false
@@ -70,62 +66,63 @@ module _ (es : List ℕ) (p n word : ℕ) where
       find_entry es p n TENTATIVE word ≡ live_entry es p n word
   first_tentative h t = first_live TENTATIVE never_tentative h t
 
-  pub before_live : (k : ℕ) → k < live_entry es p n word → has_entry es p TENTATIVE word k ≡ false
-  unfolding live_entry
-  before_live k h = never_tentative k (first_not (has_live es p word) 0 n k (omega arith) h)
-
-  normal_tag : live_entry es p n word < n → (copy_at es p (live_entry es p n word)).tag ≢ TENTATIVE →
+  normal_tag : live_entry es p n word < n → eqb (copy_at es p (live_entry es p n word)).tag TENTATIVE ≡ false →
       (copy_at es p (live_entry es p n word)).tag ≡ NORMAL
   unfolding live_entry
   normal_tag h ne =
       let t = (copy_at es p (first_from (has_live es p word) 0 n)).tag in
-      either_tag t ne (both_left (either (eqb t NORMAL) (eqb t TENTATIVE)) _ (first_has (has_live es p word) 0 n (omega arith)))
+      let tagged = both_left (either (eqb t NORMAL) (eqb t TENTATIVE)) _ (first_has (has_live es p word) 0 n (omega arith)) in
+      eqb-true t NORMAL (only_left (eqb t NORMAL) (eqb t TENTATIVE) ne tagged)
 
-  module _ (i : ℕ) (at : i ≡ live_entry es p n word) where
-    pub own_none : n ≤ i → own_entry es p n word ≡ own false n
-    unfolding own_entry
-    own_none h =
-        rw (none_live TENTATIVE never_tentative (omega (arith, at)), none_live NORMAL never_normal (omega (arith, at)), le-ltb n n (omega arith))
+  pub own_none : n ≤ live_entry es p n word → own_entry es p n word ≡ Nowhere
+  unfolding own_entry
+  own_none h =
+      rw (none_live TENTATIVE never_tentative h, none_live NORMAL never_normal h, le-ltb n n (omega arith))
 
-    pub own_tentative : i < n → (copy_at es p i).tag ≡ TENTATIVE → own_entry es p n word ≡ own true i
+  module _ (i : ℕ) (low : i < n) (at : live_entry es p n word ≡ i) where
+    pub own_tentative : (copy_at es p i).tag ≡ TENTATIVE → own_entry es p n word ≡ Tentative i
     unfolding own_entry
-    own_tentative h t = rw (first_tentative (omega (arith, at)) (rw (← at) t), ← at, lt-ltb i n h)
+    own_tentative t = rw (first_tentative (omega (arith, at)) (rw at t), at, lt-ltb i n low)
 
-    pub own_normal : i < n → (copy_at es p i).tag ≢ TENTATIVE → n ≤ find_entry es p n TENTATIVE word → own_entry es p n word ≡ own false i
+    pub own_normal : eqb (copy_at es p i).tag TENTATIVE ≡ false → n ≤ find_entry es p n TENTATIVE word → own_entry es p n word ≡ Normal i
     unfolding own_entry
-    own_normal h ne none =
+    own_normal ne none =
         rw (
           le-ltb (find_entry es p n TENTATIVE word) n none,
-          first_live NORMAL never_normal (omega (arith, at)) (normal_tag (omega (arith, at)) (rw (← at) ne)),
-          ← at,
+          first_live NORMAL never_normal (omega (arith, at)) (normal_tag (omega (arith, at)) (rw at ne)),
+          at,
+          lt-ltb i n low,
         )
 
   -- a tentative one behind a NORMAL one
-  pub own_behind : find_entry es p n TENTATIVE word < n → own_entry es p n word ≡ own true (find_entry es p n TENTATIVE word)
+  pub own_behind : find_entry es p n TENTATIVE word < n → own_entry es p n word ≡ Tentative (find_entry es p n TENTATIVE word)
   unfolding own_entry
   own_behind h = rw (lt-ltb (find_entry es p n TENTATIVE word) n h)
 
--- what an own entry's place says of the two tags
-module _ (es : List ℕ) (p n word : ℕ) (o : Own) (e : o ≡ own_entry es p n word) where
-  by_tag : (b : Bool) → ltb (find_entry es p n TENTATIVE word) n ≡ b →
-      o ≡ own b (pick b (find_entry es p n TENTATIVE word) (find_entry es p n NORMAL word))
+  -- what an own entry says of the two tags
+  abbrev Told : Own → Type 0
+  Told (Tentative i) = (find_entry es p n TENTATIVE word < n) × (find_entry es p n TENTATIVE word ≡ i)
+  Told (Normal i) =
+      (n ≤ find_entry es p n TENTATIVE word) × (find_entry es p n NORMAL word < n) × (find_entry es p n NORMAL word ≡ i)
+  Told Nowhere = (n ≤ find_entry es p n TENTATIVE word) × (n ≤ find_entry es p n NORMAL word)
+
+  told : Told (own_entry es p n word)
   unfolding own_entry
-  by_tag b t = e ∙ rw t
-
-  pub tentative_own : o.tentative ≡ true →
-      (ltb (find_entry es p n TENTATIVE word) n ≡ true) × (find_entry es p n TENTATIVE word ≡ o.at)
-  tentative_own t = by (ltb (find_entry es p n TENTATIVE word) n) refl
+  told = by (ltb (find_entry es p n TENTATIVE word) n) (ltb (find_entry es p n NORMAL word) n) refl refl
     where
-      by : (b : Bool) → ltb (find_entry es p n TENTATIVE word) n ≡ b →
-          (ltb (find_entry es p n TENTATIVE word) n ≡ true) × (find_entry es p n TENTATIVE word ≡ o.at)
-      by true z = (z, sym (ap (λ (x : Own). x.at) (by_tag true z)))
-      by false z = absurd (false≢true (sym (ap (λ (x : Own). x.tentative) (by_tag false z)) ∙ t))
+      by : (a b : Bool) → ltb (find_entry es p n TENTATIVE word) n ≡ a → ltb (find_entry es p n NORMAL word) n ≡ b →
+          Told (pick a (Tentative (find_entry es p n TENTATIVE word)) (pick b (Normal (find_entry es p n NORMAL word)) Nowhere))
+      by true b e f = (ltb-true _ n e, refl)
+      by false true e f = (ltb-false _ n e, ltb-true _ n f, refl)
+      by false false e f = (ltb-false _ n e, ltb-false _ n f)
 
-  pub normal_own : o.tentative ≡ false →
-      (ltb (find_entry es p n TENTATIVE word) n ≡ false) × (find_entry es p n NORMAL word ≡ o.at)
-  normal_own t = by (ltb (find_entry es p n TENTATIVE word) n) refl
-    where
-      by : (b : Bool) → ltb (find_entry es p n TENTATIVE word) n ≡ b →
-          (ltb (find_entry es p n TENTATIVE word) n ≡ false) × (find_entry es p n NORMAL word ≡ o.at)
-      by true z = absurd (false≢true (sym t ∙ ap (λ (x : Own). x.tentative) (by_tag true z)))
-      by false z = (z, sym (ap (λ (x : Own). x.at) (by_tag false z)))
+  pub tentative_own : (i : ℕ) → Tentative i ≡ own_entry es p n word →
+      (find_entry es p n TENTATIVE word < n) × (find_entry es p n TENTATIVE word ≡ i)
+  tentative_own i e = subst Told (sym e) told
+
+  pub normal_own : (i : ℕ) → Normal i ≡ own_entry es p n word →
+      (n ≤ find_entry es p n TENTATIVE word) × (find_entry es p n NORMAL word < n) × (find_entry es p n NORMAL word ≡ i)
+  normal_own i e = subst Told (sym e) told
+
+  pub no_own : Nowhere ≡ own_entry es p n word → (n ≤ find_entry es p n TENTATIVE word) × (n ≤ find_entry es p n NORMAL word)
+  no_own e = subst Told (sym e) told

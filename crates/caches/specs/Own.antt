@@ -1,25 +1,18 @@
--- What a search for a word's entries looks at, and a processor's own entry of a word, in the order in which a step looks for it.
-use Rattle.std.specs.Prelude.{Bool, not, List, ℕ, eqb, ltb}
-use Rattle.laws.specs.Choice.{pick, both}
-use Rattle.entry.specs.declared.Entry.{Entry}
-use Rattle.entry.specs.Numbers.{INVALID, NORMAL, TENTATIVE}
+-- What a search yields, and a processor's own entry of a word, in the order in which a step looks for it.
+use Rattle.std.specs.Prelude.{List, ℕ, ltb, Option, Some, None}
+use Rattle.laws.specs.Choice.{pick}
+use Rattle.entry.specs.Numbers.{NORMAL, TENTATIVE}
 use Rattle.rules.specs.Own.{find_entry}
 use Rattle.caches.specs.declared.Own.{Own}
+use Rattle.caches.specs.declared.Own.TheVariants.{Tentative, Normal, Nowhere}
 
--- an entry of any tag but INVALID
-abbrev pub used : Entry → Bool
-used e = not (eqb e.tag INVALID)
+-- of n places the i-th; none where a search reached the end
+abbrev pub below : ℕ → ℕ → Option ℕ
+below n i = pick (ltb i n) (Some i) None
 
--- one that holds the word
-abbrev pub used_for : Entry → ℕ → Bool
-used_for e word = both (used e) (eqb e.word word)
-
-abbrev pub own : Bool → ℕ → Own
-own b i = record { tentative = b; at = i }
-
--- the first tentative one, else the first NORMAL one; else its place is n
+-- the first tentative one, else the first NORMAL one
 unfoldable pub own_entry : List ℕ → ℕ → ℕ → ℕ → Own
 own_entry es p n word =
     let i = find_entry es p n TENTATIVE word in
     let j = find_entry es p n NORMAL word in
-    own (ltb i n) (pick (ltb i n) i j)
+    pick (ltb i n) (Tentative i) (pick (ltb j n) (Normal j) Nowhere)

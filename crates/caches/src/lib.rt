@@ -1,225 +1,212 @@
-// One processor's caches, on the lent arrays.
+// One processor's caches, as steps look for its copies and change them.
 
 #![tactic(auto)]
 
-mod places;
+ghost use Rattle.std.specs.Prelude.{◌≡◌, Bool, ℕ, ◌<◌, ◌^◌};
+ghost use Rattle.laws.specs.Search.{first_from};
+ghost use Rattle.entry.specs.Copy.{Fields};
+ghost use Rattle.entry.specs.Kinds.{tag_number};
+ghost use Rattle.entry.specs.Numbers.{NORMAL, TENTATIVE};
+ghost use Rattle.entry.specs.Packing.{no_entry, unpack};
+ghost use Rattle.rules.specs.State.{caches, copy_at, with_copy, line_at, entry_at, with_memory, counted};
+ghost use Rattle.rules.specs.Own.{home, holds, find_entry, is_free, lowest, free_slot, live_entry};
+ghost use Rattle.rules.specs.Rollback.{repacked, over_entries, rollback, committed_entries};
+ghost use Rattle.rules.specs.Snoop.{written_back, writes, clear_line, clear_entry};
+ghost use Rattle.caches.specs.Own.{below, own_entry};
 
-ghost use Rattle.std.specs.Prelude.{◌≡◌, ◌≢◌, false, ℕ, ◌<◌};
-ghost use Rattle.entry.specs.Numbers.{INVALID, NORMAL, TENTATIVE};
-ghost use Rattle.entry.specs.Packing.{no_entry};
-ghost use Rattle.rules.specs.State.{copy_at, with_copy};
-ghost use Rattle.rules.specs.Own.{home, holds, has_entry, find_entry, is_free, lowest, free_slot, live_entry};
-ghost use Rattle.rules.specs.Rollback.{rolled_entries, status_down, committed_entries};
-ghost use Rattle.rules.specs.Snoop.{written_back, writes};
-ghost use Rattle.caches.specs.Own.{own_entry};
+use entry::numbers::{State, Tag};
+use entry::{Entry, packed};
+use rules::{Caches, Copies, Dims, Memory, place};
 
-use entry::Entry;
-use entry::numbers::{BACKUP, DIRTY, INVALID, NORMAL, TENTATIVE};
-use rules::{Copies, Dims, Flags, Memory, place};
-
-// Whether it is a tentative entry; its place is the number of entries where there is none.
+// A processor's own entry of a word, and its place.
 #[derive(Clone, Copy)]
-pub struct Own {
-    pub tentative: bool,
-    pub at: usize,
+pub enum Own {
+    Tentative(usize),
+    Normal(usize),
+    Nowhere,
 }
 
 // A machine of no lines is never made; the remainder by 0 is the word itself, as in the definition.
+#[tactic(auto, unfolding(rules::specs::Own::home))]
 pub fn home(d: Dims, word: u8) -> usize
     ensures { result ≡ home d word }
 {
-    let lines = d.lines;
-    let w = word as usize;
-    if lines == 0 {
-        return w;
-    }
-    w % lines
+    let w = usize::from(word);
+    if d.lines == 0 { w } else { w % d.lines }
 }
 
 pub fn holds(e: Entry, word: u8) -> bool
     ensures { result ≡ holds e word }
 {
-    e.state != INVALID && e.word == word
+    e.state != State::Invalid && e.word == word
 }
 
-// No entry before `from` has the tag and the word.
-fn find_from(entries: &Copies, p: usize, n: usize, from: usize, tag: u8, word: u8) -> usize
-    requires tag_nonzero { tag ≢ INVALID }
-    requires by_index { (k : ℕ) → k < from → has_entry entries.now p tag word k ≡ false }
-    ensures { result ≡ find_entry entries.now p n tag word }
+// The first of p's entries that passes the test for the key. Places go round after 64, so that it need not look further.
+fn first_entry<K: Copy, F: Fn(u64, K) -> bool>(
+    c: &Caches,
+    d: Dims,
+    p: usize,
+    key: K,
+    test: F,
+) -> Option<usize>
+    ghost has: { Fields → K → Bool }
+    requires calls { F.IsAlwaysCallable test }
+    requires tests { (x : ℕ) (b : Bool) → x < 2 ^ 64 → F.post test x key b → b ≡ has (unpack x) key }
+    ensures { result ≡ below d.entries (first_from (λ i. has (entry_at c.now p i) key) 0 d.entries) }
 {
-    let m = places::reach(n);
-    if from >= m {
-        return n;
-    }
     let base = p % 8 * 64;
-    let end = base + m;
-    let mut j: usize = base + from;
-    let at = loop {
-        if j >= end {
-            break n;
-        }
-        let k = places::next_of_word(entries, end, j, word);
-        if k >= end {
-            break n;
-        }
-        if entry::packed::is_entry(entries[k], tag, word) {
-            break k - base;
-        }
-        j = k + 1;
+    let own = &c.entries[base..base + d.entries.min(64)];
+    own.iter().position(|x| test(*x, key))
+}
+
+#[tactic(auto, unfolding(rules::specs::Own::find_entry))]
+pub fn find_tentative(c: &Caches, d: Dims, p: usize, word: u8) -> Option<usize>
+    ensures { result ≡ below d.entries (find_entry c.now.entries p d.entries TENTATIVE word) }
+{
+    first_entry(
+        c,
+        d,
+        p,
+        word,
+        |x, word| packed::is_entry(x, Tag::Tentative, word),
+    )
+}
+
+#[tactic(auto, unfolding(rules::specs::Own::find_entry))]
+pub fn find_normal(c: &Caches, d: Dims, p: usize, word: u8) -> Option<usize>
+    ensures { result ≡ below d.entries (find_entry c.now.entries p d.entries NORMAL word) }
+{
+    first_entry(
+        c,
+        d,
+        p,
+        word,
+        |x, word| packed::is_entry(x, Tag::Normal, word),
+    )
+}
+
+#[tactic(auto, unfolding(rules::specs::Own::live_entry))]
+pub fn live_entry(c: &Caches, d: Dims, p: usize, word: u8) -> Option<usize>
+    ensures { result ≡ below d.entries (live_entry c.now.entries p d.entries word) }
+{
+    first_entry(c, d, p, word, packed::is_live)
+}
+
+// The tentative one, else the NORMAL one. Behind a NORMAL entry there is no tentative one in a sound state.
+pub fn own_entry(c: &Caches, d: Dims, p: usize, word: u8) -> Own
+    ensures { result ≡ own_entry c.now.entries p d.entries word }
+{
+    let Some(i) = live_entry(c, d, p, word) else {
+        return Own::Nowhere;
     };
-    at
-}
-
-pub fn find_tentative(entries: &Copies, p: usize, n: usize, word: u8) -> usize
-    ensures { result ≡ find_entry entries.now p n TENTATIVE word }
-{
-    find_from(entries, p, n, 0, TENTATIVE, word)
-}
-
-pub fn find_normal(entries: &Copies, p: usize, n: usize, word: u8) -> usize
-    ensures { result ≡ find_entry entries.now p n NORMAL word }
-{
-    find_from(entries, p, n, 0, NORMAL, word)
-}
-
-pub fn live_entry(entries: &Copies, p: usize, n: usize, word: u8) -> usize
-    ensures { result ≡ live_entry entries.now p n word }
-{
-    let m = places::reach(n);
-    let base = p % 8 * 64;
-    let end = base + m;
-    let mut j: usize = base;
-    let at = loop {
-        if j >= end {
-            break n;
-        }
-        let k = places::next_of_word(entries, end, j, word);
-        if k >= end {
-            break n;
-        }
-        if entry::packed::is_live(entries[k], word) {
-            break k - base;
-        }
-        j = k + 1;
-    };
-    at
-}
-
-// A processor's own entry of a word: the tentative one, else the NORMAL one. Behind a NORMAL entry there is no tentative one in a sound
-// state.
-pub fn own_entry(entries: &Copies, p: usize, n: usize, word: u8) -> Own
-    ensures { result ≡ own_entry entries.now p n word }
-{
-    let i = live_entry(entries, p, n, word);
-    if i >= n {
-        return Own {
-            tentative: false,
-            at: n,
-        };
+    if c.entry_at(p, i).tag == Tag::Tentative {
+        return Own::Tentative(i);
     }
-    let at = place(p, i);
-    let tag = entry::packed::tag_of(entries[at]);
-    if tag == TENTATIVE {
-        return Own {
-            tentative: true,
-            at: i,
-        };
-    }
-    let k = find_from(entries, p, n, i, TENTATIVE, word);
-    if k < n {
-        return Own {
-            tentative: true,
-            at: k,
-        };
-    }
-    Own {
-        tentative: false,
-        at: i,
+    match find_tentative(c, d, p, word) {
+        Some(k) => Own::Tentative(k),
+        None => Own::Normal(i),
     }
 }
 
-// No place before `from` is free and has the tag.
-fn lowest(entries: &Copies, p: usize, n: usize, tag: u8, taken: usize, from: usize) -> usize
-    requires { (k : ℕ) → k < from → is_free entries.now p tag taken k ≡ false }
-    ensures { result ≡ lowest entries.now p n tag taken }
+fn is_free(c: &Caches, p: usize, tag: Tag, taken: usize, i: usize) -> bool
+    ensures { result ≡ is_free c.now.entries p (tag_number tag) taken i }
 {
-    let base = p % 8 * 64;
-    let mut i: usize = from;
-    let slot = loop {
-        if i >= n {
-            break n;
+    i != taken && c.entry_at(p, i).tag == tag
+}
+
+// No place before the first that has the tag is free. Document 01 names the form: a loop over the entries that yields its slot by break.
+fn lowest(c: &Caches, d: Dims, p: usize, tag: Tag, taken: usize) -> Option<usize>
+    ensures { result ≡ below d.entries (lowest c.now.entries p d.entries (tag_number tag) taken) }
+{
+    let mut i = first_entry(c, d, p, tag, |x, tag| packed::tag_of(x) == tag)?;
+    loop {
+        if i >= d.entries {
+            break None;
         }
-        let j = base + i % 64;
-        let t = entry::packed::tag_of(entries[j]);
-        if i != taken && t == tag {
-            break i;
+        if is_free(c, p, tag, taken, i) {
+            break Some(i);
         }
         i += 1;
-    };
-    slot
+    }
 }
 
-pub fn free_slot(entries: &Copies, p: usize, n: usize, taken: usize) -> usize
-    ensures { result ≡ free_slot entries.now p n taken }
+#[tactic(auto, unfolding(rules::specs::Own::free_slot))]
+pub fn free_slot(c: &Caches, d: Dims, p: usize, taken: usize) -> Option<usize>
+    ensures { result ≡ below d.entries (free_slot c.now.entries p d.entries taken) }
 {
-    let from = places::first_invalid(entries, p, n);
-    let i = lowest(entries, p, n, INVALID, taken, from);
-    if i < n {
-        return i;
-    }
-    let j = lowest(entries, p, n, NORMAL, taken, 0);
-    if j < n {
-        return j;
-    }
-    lowest(entries, p, n, BACKUP, taken, 0)
+    lowest(c, d, p, Tag::Invalid, taken)
+        .or_else(|| lowest(c, d, p, Tag::Normal, taken))
+        .or_else(|| lowest(c, d, p, Tag::Backup, taken))
 }
 
-pub fn rollback(entries: &mut Copies, flags: &mut Flags, p: usize, n: usize)
-    ensures { (entries.new ≡ rolled_entries entries.old p n) × (flags.new ≡ status_down flags.old p) }
+// Each of p's entries becomes f of it.
+fn each_entry<F: Fn(u64) -> u64>(entries: &mut Copies, d: Dims, p: usize, f: F)
+    ghost g: { Fields → Fields }
+    requires calls { F.IsAlwaysCallable f }
+    requires gives { (x y : ℕ) → x < 2 ^ 64 → F.post f x y → y ≡ repacked g x }
+    ensures { entries.new ≡ over_entries g p d.entries entries.old }
 {
-    let base = p % 8 * 64;
-    let mut i: usize = 0;
-    while i < n {
-        let j = base + i % 64;
-        entries[j] = entry::packed::rolled_back(entries[j]);
-        i += 1;
+    for i in 0..d.entries {
+        let j = place(p, i);
+        entries[j] = f(entries[j]);
     }
-    let k = 8 + p % 8;
-    flags[k] = 0;
 }
 
-pub fn commit_entries(entries: &mut Copies, p: usize, n: usize)
-    ensures { entries.new ≡ committed_entries entries.old p n }
+#[tactic(auto, unfolding(rules::specs::Rollback::rolled_entries, rules::specs::Rollback::status_down))]
+pub fn rollback(c: &mut Caches, d: Dims, p: usize)
+    ensures { c.new ≡ rollback d p c.old }
 {
-    let base = p % 8 * 64;
-    let mut i: usize = 0;
-    while i < n {
-        let j = base + i % 64;
-        entries[j] = entry::packed::committed(entries[j]);
-        i += 1;
+    each_entry(&mut c.entries, d, p, packed::rolled_back);
+    c.flags[8 + p % 8] = 0;
+}
+
+#[tactic(auto, unfolding(rules::specs::Rollback::committed_entries))]
+pub fn commit_entries(c: &mut Caches, d: Dims, p: usize)
+    ensures { c.new ≡ caches c.old.memory c.old.lines (committed_entries c.old.entries p d.entries) c.old.flags }
+{
+    each_entry(&mut c.entries, d, p, packed::committed);
+}
+
+#[tactic(auto, unfolding(rules::specs::Snoop::written_back, rules::specs::Snoop::writes))]
+fn give_back(memory: &mut Memory, e: Entry) -> u8
+    ensures { (memory.new ≡ written_back memory.old e) × (result ≡ writes e) }
+{
+    if e.state == State::Dirty {
+        memory[usize::from(e.word)] = e.data;
+        1
+    } else {
+        0
     }
 }
 
 // Answers how many WRITE that is.
-pub fn write_back(memory: &mut Memory, e: Entry) -> u8
-    ensures { (memory.new ≡ written_back memory.old e) × (result ≡ writes e) }
+pub fn write_back(c: &mut Caches, e: Entry) -> u8
+    ensures { counted result c.new ≡ counted (writes e) (with_memory c.old (written_back c.old.memory e)) }
 {
-    if e.state != DIRTY {
-        return 0;
-    }
-    let w = e.word as usize;
-    memory[w] = e.data;
-    1
+    give_back(&mut c.memory, e)
 }
 
-// Of lines or of entries: a copy is written back if DIRTY, and made invalid. Answers how many WRITE that is.
-pub fn clear(memory: &mut Memory, copies: &mut Copies, p: usize, i: usize) -> u8
+// Of lines or of entries.
+fn clear(memory: &mut Memory, copies: &mut Copies, p: usize, i: usize) -> u8
     ensures { (memory.new ≡ written_back memory.old (copy_at copies.old p i)) ×
         (copies.new ≡ with_copy copies.old p i no_entry) × (result ≡ writes (copy_at copies.old p i)) }
 {
     let j = place(p, i);
     let e = Entry::unpack(copies[j]);
     copies[j] = 0;
-    write_back(memory, e)
+    give_back(memory, e)
+}
+
+// A line is written back if DIRTY, and made invalid. Answers how many WRITE that is.
+pub fn clear_line(c: &mut Caches, p: usize, i: usize) -> u8
+    ensures { counted result c.new ≡ counted (writes (line_at c.old p i)) (clear_line c.old p i) }
+{
+    clear(&mut c.memory, &mut c.lines, p, i)
+}
+
+// And an entry.
+pub fn clear_entry(c: &mut Caches, p: usize, i: usize) -> u8
+    ensures { counted result c.new ≡ counted (writes (entry_at c.old p i)) (clear_entry c.old p i) }
+{
+    clear(&mut c.memory, &mut c.entries, p, i)
 }

@@ -1,11 +1,13 @@
 -- Answers and cycle counts.
-use Rattle.std.specs.Prelude.{ℕ, ◌+◌, Bool, true, false, eqb}
+use Rattle.std.specs.Prelude.{Result, Ok, Err, ℕ, ◌+◌, Bool, true, false, eqb}
 use Prim.Native.String.{String}
 use Rattle.laws.specs.Choice.{pick}
 use Rattle.entry.specs.declared.answer.Answer.{Answer}
 use Rattle.entry.specs.declared.answer.Answer.TheVariants.{Value, Done, Success, Failure, True, False, Aborted, Refused}
 use Rattle.entry.specs.declared.answer.Counts.{Counts}
 use Rattle.entry.specs.declared.answer.Answered.{Answered}
+use Rattle.entry.specs.declared.refusals.Refusal.{Refusal}
+use Rattle.entry.specs.Refusals.{number_of}
 use Rattle.entry.specs.Numbers.{READ, RFO, WRITE, T_READ, T_RFO}
 
 -- "Answers": each case's name.
@@ -96,3 +98,8 @@ answered a c = record { answer = a; counts = c }
 -- "A refusal gives its number, value 0 and zero counts"
 abbrev pub refused_by : ℕ → Answered
 refused_by n = answered (Refused n) no_cycles
+
+-- what is told: an answer, or a refusal
+abbrev pub told_as : Result Answered Refusal → Answered
+told_as (Ok a) = a
+told_as (Err r) = refused_by (number_of r)

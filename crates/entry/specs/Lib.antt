@@ -1,4 +1,6 @@
 pub mod Numbers
+pub mod Copy
+pub mod Kinds
 pub mod Refusals
 pub mod Step
 pub mod Packing

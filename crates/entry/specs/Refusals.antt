@@ -1,7 +1,10 @@
 -- "Refusal numbers", under names, in the order in which document 01 lists and checks them; 11 to 14 are those of "The replay program and
 -- its text".
-use Rattle.std.specs.Prelude.{ℕ, Bool}
+use Rattle.std.specs.Prelude.{ℕ, Bool, Result, Ok, Err}
 use Rattle.laws.specs.Choice.{pick}
+use Rattle.entry.specs.declared.refusals.Refusal.{Refusal}
+use Rattle.entry.specs.declared.refusals.Refusal.TheVariants.{BadProcessors, BadWords, BadLines, BadEntries, BadMemory, NoSuchStep, NoSuchProcessor, NoSuchWord}
+use Rattle.entry.specs.declared.refusals.Refusal.TheVariants.{NotSound, BadColumns, Malformed, NotRising, WrongHeader, TooLong}
 
 -- nothing is refused
 abbrev pub accepted : ℕ
@@ -59,6 +62,28 @@ wrong_header = 13
 -- "The record that holds input byte 4,194,305, its CRLF included, is 14"
 abbrev pub too_long : ℕ
 too_long = 14
+
+-- the number of each
+abbrev pub number_of : Refusal → ℕ
+number_of BadProcessors = bad_processors
+number_of BadWords = bad_words
+number_of BadLines = bad_lines
+number_of BadEntries = bad_entries
+number_of BadMemory = bad_memory
+number_of NoSuchStep = no_such_step
+number_of NoSuchProcessor = no_such_processor
+number_of NoSuchWord = no_such_word
+number_of NotSound = not_sound
+number_of BadColumns = bad_columns
+number_of Malformed = malformed
+number_of NotRising = not_rising
+number_of WrongHeader = wrong_header
+number_of TooLong = too_long
+
+-- a refusal by its number, or `accepted`
+abbrev pub refused_as : {A : Type 0} → Result A Refusal → ℕ
+refused_as (Ok _) = accepted
+refused_as (Err r) = number_of r
 
 -- "Checked in the order listed": refusals read downwards, each with what it asks. Unless ok, n; else what comes after.
 abbrev pub unless : {A : Type 0} → Bool → A → A → A

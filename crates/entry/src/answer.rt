@@ -1,10 +1,12 @@
 // What a step tells: an answer and six cycle counts.
 
 ghost use Rattle.std.specs.Prelude.{◌≡◌, ◌+◌};
-ghost use Rattle.entry.specs.Answer.{answer_number, answer_value, refusal_number, is_refusal, quiet, asked, cycles_of, refused_by};
-ghost use Rattle.laws.specs.Choice.{pick};
+ghost use Rattle.entry.specs.Answer.{answer_number, answer_value, refusal_number, is_refusal, quiet, asked, cycles_of, answered, no_cycles, refused_by};
+ghost use Rattle.entry.specs.Kinds.{cycle_number};
+ghost use Rattle.entry.specs.Refusals.{number_of};
 
-use crate::numbers::{READ, RFO, T_READ, T_RFO, WRITE};
+use crate::numbers::Cycle;
+use crate::refusals::Refusal;
 
 #[derive(Clone, Copy)]
 pub enum Answer {
@@ -51,18 +53,13 @@ impl Answer {
         }
     }
 
+    // 0 where the answer is none of a load.
     pub fn value(self) -> u32
         ensures { result ≡ answer_value self }
     {
         match self {
-            Answer::Value(v) => v,
-            Answer::Done => 0,
-            Answer::Success => 0,
-            Answer::Failure => 0,
-            Answer::True => 0,
-            Answer::False => 0,
-            Answer::Aborted => 0,
-            Answer::Refused(_) => 0,
+            Answer::Value(value) => value,
+            _ => 0,
         }
     }
 
@@ -71,61 +68,41 @@ impl Answer {
         ensures { result ≡ refusal_number self }
     {
         match self {
-            Answer::Value(_) => 0,
-            Answer::Done => 0,
-            Answer::Success => 0,
-            Answer::Failure => 0,
-            Answer::True => 0,
-            Answer::False => 0,
-            Answer::Aborted => 0,
-            Answer::Refused(n) => n,
+            Answer::Refused(number) => number,
+            _ => 0,
         }
     }
 
     pub fn is_refusal(self) -> bool
         ensures { result ≡ is_refusal self }
     {
-        match self {
-            Answer::Value(_) => false,
-            Answer::Done => false,
-            Answer::Success => false,
-            Answer::Failure => false,
-            Answer::True => false,
-            Answer::False => false,
-            Answer::Aborted => false,
-            Answer::Refused(_) => true,
-        }
+        matches!(self, Answer::Refused(_))
     }
-}
-
-fn more_if(yes: bool, n: u16) -> u32
-    ensures { result ≡ pick yes (n + 1) n }
-{
-    let whole = n as u32;
-    if yes {
-        return whole + 1;
-    }
-    whole
-}
-
-fn one_if(yes: bool) -> u32
-    ensures { result ≡ pick yes 1 0 }
-{
-    if yes {
-        return 1;
-    }
-    0
 }
 
 impl Answered {
+    pub fn quiet(answer: Answer) -> Answered
+        ensures { result ≡ answered answer no_cycles }
+    {
+        Answered {
+            answer,
+            counts: Counts::quiet(0),
+        }
+    }
+
     // A refusal gives its number, and zero counts.
     pub fn refused(number: u8) -> Answered
         ensures { result ≡ refused_by number }
     {
-        Answered {
-            answer: Answer::Refused(number),
-            counts: Counts::quiet(0),
-        }
+        Answered::quiet(Answer::Refused(number))
+    }
+}
+
+impl From<Refusal> for Answered {
+    ghost from_gives = { λ refusal told. told ≡ refused_by (number_of refusal) };
+
+    fn from(refusal: Refusal) -> Answered {
+        Answered::refused(refusal.into())
     }
 }
 
@@ -137,7 +114,7 @@ impl Counts {
         Counts {
             read: 0,
             rfo: 0,
-            write: w as u32,
+            write: w.into(),
             t_read: 0,
             t_rfo: 0,
             busy: 0,
@@ -145,16 +122,16 @@ impl Counts {
     }
 
     // w copies written back, one request, and how many BUSY it met.
-    pub fn asked(cycle: u8, w: u16, busy: u32) -> Counts
-        ensures { result ≡ asked cycle w busy }
+    pub fn asked(cycle: Cycle, w: u16, busy: u32) -> Counts
+        ensures { result ≡ asked (cycle_number cycle) w busy }
     {
         Counts {
-            read: one_if(cycle == READ),
-            rfo: one_if(cycle == RFO),
-            write: more_if(cycle == WRITE, w),
-            t_read: one_if(cycle == T_READ),
-            t_rfo: one_if(cycle == T_RFO),
-            busy: busy,
+            read: (cycle == Cycle::Read).into(),
+            rfo: (cycle == Cycle::Rfo).into(),
+            write: u32::from(w) + u32::from(cycle == Cycle::Write),
+            t_read: (cycle == Cycle::TRead).into(),
+            t_rfo: (cycle == Cycle::TRfo).into(),
+            busy,
         }
     }
 
@@ -162,11 +139,11 @@ impl Counts {
     pub fn cycles(self) -> u64
         ensures { result ≡ cycles_of self }
     {
-        (self.read as u64)
-            + (self.rfo as u64)
-            + (self.write as u64)
-            + (self.t_read as u64)
-            + (self.t_rfo as u64)
-            + (self.busy as u64)
+        u64::from(self.read)
+            + u64::from(self.rfo)
+            + u64::from(self.write)
+            + u64::from(self.t_read)
+            + u64::from(self.t_rfo)
+            + u64::from(self.busy)
     }
 }

@@ -9,18 +9,37 @@ pub mod refusals;
 pub mod step;
 
 ghost use Rattle.std.specs.Prelude.{◌≡◌};
-ghost use Rattle.entry.specs.Packing.{no_entry, pack, unpack};
+ghost use Rattle.entry.specs.Packing.{entry, no_entry, pack, unpack};
 ghost use Rattle.entry.specs.Entry.{with_state, with_tag, stored, shared, snooped};
+ghost use Rattle.entry.specs.Numbers.{INVALID};
+ghost use Rattle.entry.specs.Kinds.{state_number, tag_number, cycle_number};
 
-use crate::numbers::{DIRTY, INVALID, READ, RESERVED, RFO, T_READ, T_RFO, VALID, WRITE};
+use crate::numbers::{Cycle, State, Tag};
+use std::marker::Model;
 
 // A regular line has no tag: its tag is INVALID.
 #[derive(Clone, Copy)]
 pub struct Entry {
-    pub state: u8,
-    pub tag: u8,
+    pub state: State,
+    pub tag: Tag,
     pub word: u8,
     pub data: u32,
+}
+
+impl Model for Entry {
+    ghost use Rattle.std.specs.Prelude.{ℕ};
+    ghost use Rattle.entry.specs.Copy.{Fields};
+
+    ghost Value = { Fields };
+
+    ghost use Rattle.entry.specs.Numbers.{INVALID};
+    ghost use Rattle.entry.specs.Kinds.{fields_of, inside_of, inside_back};
+
+    ghost view = { fields_of };
+
+    ghost inverse = { inside_of };
+
+    ghost inverse_ok = { λ a h. inside_back a };
 }
 
 impl Entry {
@@ -29,10 +48,22 @@ impl Entry {
         ensures { result ≡ no_entry }
     {
         Entry {
-            state: INVALID,
-            tag: INVALID,
+            state: State::Invalid,
+            tag: Tag::Invalid,
             word: 0,
             data: 0,
+        }
+    }
+
+    // A regular copy.
+    pub fn regular(state: State, word: u8, data: u32) -> Entry
+        ensures { result ≡ entry (state_number state) INVALID word «data» }
+    {
+        Entry {
+            state,
+            word,
+            data,
+            ..Entry::none()
         }
     }
 
@@ -40,8 +71,8 @@ impl Entry {
         ensures { result ≡ unpack x }
     {
         Entry {
-            state: (x / 4294967296 / 256 / 4 % 4) as u8,
-            tag: (x / 4294967296 / 256 % 4) as u8,
+            state: State::from((x / 4294967296 / 256 / 4 % 4) as u8),
+            tag: Tag::from((x / 4294967296 / 256 % 4) as u8),
             word: (x / 4294967296 % 256) as u8,
             data: (x % 4294967296) as u32,
         }
@@ -50,65 +81,50 @@ impl Entry {
     pub fn pack(self) -> u64
         ensures { result ≡ pack self }
     {
-        (self.data as u64)
+        u64::from(self.data)
             + 4294967296
-                * ((self.word as u64) + 256 * ((self.tag as u64) + 4 * (self.state as u64)))
+                * (u64::from(self.word) + 256 * (u64::from(self.tag) + 4 * u64::from(self.state)))
     }
 
-    pub fn with_state(self, state: u8) -> Entry
-        ensures { result ≡ with_state self state }
+    pub fn with_state(self, state: State) -> Entry
+        ensures { result ≡ with_state self (state_number state) }
     {
-        Entry {
-            state: state,
-            tag: self.tag,
-            word: self.word,
-            data: self.data,
-        }
+        Entry { state, ..self }
     }
 
-    pub fn with_tag(self, tag: u8) -> Entry
-        ensures { result ≡ with_tag self tag }
+    pub fn with_tag(self, tag: Tag) -> Entry
+        ensures { result ≡ with_tag self (tag_number tag) }
     {
-        Entry {
-            state: self.state,
-            tag: tag,
-            word: self.word,
-            data: self.data,
-        }
+        Entry { tag, ..self }
     }
 
     pub fn stored(self, value: u32) -> Entry
         ensures { result ≡ stored self value }
     {
         Entry {
-            state: DIRTY,
-            tag: self.tag,
-            word: self.word,
+            state: State::Dirty,
             data: value,
+            ..self
         }
     }
 
     // What another processor's request leaves of a copy.
-    pub fn snooped(self, cycle: u8) -> Entry
-        ensures { result ≡ snooped cycle self }
+    pub fn snooped(self, cycle: Cycle) -> Entry
+        ensures { result ≡ snooped (cycle_number cycle) self }
     {
         match cycle {
-            READ => self.shared(),
-            RFO => Entry::none(),
-            WRITE => Entry::none(),
-            T_READ => self.shared(),
-            T_RFO => Entry::none(),
-            5..=255 => self,
+            Cycle::Read | Cycle::TRead => self.shared(),
+            Cycle::Rfo | Cycle::Write | Cycle::TRfo => Entry::none(),
+            Cycle::Other(_) => self,
         }
     }
 
     fn shared(self) -> Entry
         ensures { result ≡ shared self }
     {
-        let state = self.state;
-        match state {
-            INVALID..=VALID => self,
-            RESERVED..=255 => self.with_state(VALID),
+        if self.state.is_reserved_or_dirty() {
+            return self.with_state(State::Valid);
         }
+        self
     }
 }

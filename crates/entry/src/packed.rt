@@ -6,33 +6,34 @@ ghost use Rattle.laws.specs.Choice.{pick, both};
 ghost use Rattle.entry.specs.Numbers.{NORMAL, BACKUP};
 ghost use Rattle.entry.specs.Packing.{no_entry, packed_end, pack, unpack};
 ghost use Rattle.entry.specs.Entry.{with_tag, rolled_back, committed, is_entry, is_live};
+ghost use Rattle.entry.specs.Kinds.{tag_number};
 
-use crate::numbers::{BACKUP, TENTATIVE};
+use crate::numbers::Tag;
 
-pub fn tag_of(x: u64) -> u8
-    ensures { result ≡ (unpack x).tag }
+pub fn tag_of(x: u64) -> Tag
+    ensures { tag_number result ≡ (unpack x).tag }
 {
-    (x / 4294967296 / 256 % 4) as u8
+    Tag::from((x / 4294967296 / 256 % 4) as u8)
 }
 
 pub fn has_word(x: u64, word: u8) -> bool
     ensures { result ≡ eqb (unpack x).word word }
 {
-    x / 4294967296 % 256 == (word as u64)
+    x / 4294967296 % 256 == u64::from(word)
 }
 
 // An entry with the tag and the word.
-pub fn is_entry(x: u64, tag: u8, word: u8) -> bool
-    ensures { result ≡ is_entry (unpack x) tag word }
+pub fn is_entry(x: u64, tag: Tag, word: u8) -> bool
+    ensures { result ≡ is_entry (unpack x) (tag_number tag) word }
 {
-    x / 4294967296 % 1024 == (tag as u64) * 256 + (word as u64)
+    x / 4294967296 % 1024 == u64::from(tag) * 256 + u64::from(word)
 }
 
 // A NORMAL or tentative entry of the word.
 pub fn is_live(x: u64, word: u8) -> bool
     ensures { result ≡ is_live (unpack x) word }
 {
-    x / 4294967296 % 512 == 256 + (word as u64)
+    x / 4294967296 % 512 == 256 + u64::from(word)
 }
 
 // An invalid or NORMAL entry, as most are, which no end of a transaction changes.
@@ -43,10 +44,10 @@ fn stays(x: u64) -> bool
 }
 
 // A backup or tentative copy whose tag is `gone` becomes invalid, one whose tag is `kept` NORMAL.
-fn ended(x: u64, gone: u8, kept: u8) -> u64
-    requires { (BACKUP ≤ gone) × (BACKUP ≤ kept) }
+fn ended(x: u64, gone: Tag, kept: Tag) -> u64
+    requires { (BACKUP ≤ tag_number gone) × (BACKUP ≤ tag_number kept) }
     ensures { let e = unpack x in
-        result ≡ pack (pick (eqb e.tag gone) no_entry (pick (eqb e.tag kept) (with_tag e NORMAL) e)) }
+        result ≡ pack (pick (eqb e.tag (tag_number gone)) no_entry (pick (eqb e.tag (tag_number kept)) (with_tag e NORMAL) e)) }
 {
     if stays(x) {
         return x;
@@ -57,7 +58,7 @@ fn ended(x: u64, gone: u8, kept: u8) -> u64
     }
     let whole = x % 17592186044416;
     if tag == kept {
-        return whole - (tag as u64) * 1099511627776 + 1099511627776;
+        return whole - u64::from(tag) * 1099511627776 + 1099511627776;
     }
     whole
 }
@@ -65,11 +66,11 @@ fn ended(x: u64, gone: u8, kept: u8) -> u64
 pub fn rolled_back(x: u64) -> u64
     ensures { result ≡ pack (rolled_back (unpack x)) }
 {
-    ended(x, TENTATIVE, BACKUP)
+    ended(x, Tag::Tentative, Tag::Backup)
 }
 
 pub fn committed(x: u64) -> u64
     ensures { result ≡ pack (committed (unpack x)) }
 {
-    ended(x, BACKUP, TENTATIVE)
+    ended(x, Tag::Backup, Tag::Tentative)
 }

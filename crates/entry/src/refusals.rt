@@ -1,35 +1,32 @@
-// Refusal numbers, in the order in which document 01 lists and checks them.
+// Refusals, by the numbers of document 01.
 
-pub const ACCEPTED: u8 = 0;
+ghost use Rattle.std.specs.Prelude.{◌≡◌};
 
-// Dimensions out of range, and an initial memory of another length.
-pub const BAD_PROCESSORS: u8 = 1;
+// In the order in which document 01 lists and checks them; 11 to 14 are a record's text, its grant, the header, and the length of the input.
+#[derive(Clone, Copy, PartialEq, Eq)]
+pub enum Refusal {
+    BadProcessors = 1,
+    BadWords = 2,
+    BadLines = 3,
+    BadEntries = 4,
+    BadMemory = 5,
+    NotSound = 9,
+    BadColumns = 10,
+    NoSuchStep = 6,
+    NoSuchProcessor = 7,
+    NoSuchWord = 8,
+    Malformed = 11,
+    NotRising = 12,
+    WrongHeader = 13,
+    TooLong = 14,
+}
 
-pub const BAD_WORDS: u8 = 2;
+impl From<Refusal> for u8 {
+    ghost use Rattle.entry.specs.Refusals.{number_of};
 
-pub const BAD_LINES: u8 = 3;
+    ghost from_gives = { λ refusal n. n ≡ number_of refusal };
 
-pub const BAD_ENTRIES: u8 = 4;
-
-pub const BAD_MEMORY: u8 = 5;
-
-// A state, and the columns of a run.
-pub const NOT_SOUND: u8 = 9;
-
-pub const BAD_COLUMNS: u8 = 10;
-
-// A step.
-pub const NO_SUCH_STEP: u8 = 6;
-
-pub const NO_SUCH_PROCESSOR: u8 = 7;
-
-pub const NO_SUCH_WORD: u8 = 8;
-
-// A record's text, its grant, the header, and the length of the input.
-pub const MALFORMED: u8 = 11;
-
-pub const NOT_RISING: u8 = 12;
-
-pub const WRONG_HEADER: u8 = 13;
-
-pub const TOO_LONG: u8 = 14;
+    fn from(refusal: Refusal) -> u8 {
+        refusal as u8
+    }
+}

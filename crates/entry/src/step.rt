@@ -3,8 +3,9 @@
 ghost use Rattle.std.specs.Prelude.{◌≡◌};
 ghost use Rattle.entry.specs.Step.{uses_word};
 
-use crate::numbers::{LOAD, LT, LTX, ST, STORE};
+use crate::numbers::Op;
 
+// The step's number is as it was handed in: numbers::Op has those that there are.
 #[derive(Clone, Copy)]
 pub struct Step {
     pub op: u8,
@@ -13,15 +14,9 @@ pub struct Step {
     pub value: u32,
 }
 
+// Of any number: one that is no step's uses none.
 pub fn uses_word(op: u8) -> bool
     ensures { result ≡ uses_word op }
 {
-    match op {
-        LOAD => true,
-        STORE => true,
-        LT => true,
-        LTX => true,
-        ST => true,
-        5..=255 => false,
-    }
+    Op::from(op).uses_word()
 }

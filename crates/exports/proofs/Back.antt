@@ -11,7 +11,8 @@ use lib.Seq.{sets, length-sets, ext_get_or}
 use borrow.Author.Tests.{eq-eqb}
 use Rattle.laws.specs.Choice.{both_true}
 use Rattle.rules.specs.declared.Machine.{Machine}
-use Rattle.rules.specs.State.{Caches, caches, caches_of, machine_of, true_flag}
+use Rattle.rules.specs.declared.Caches.{Caches}
+use Rattle.rules.specs.State.{caches, caches_of, machine_of, true_flag}
 use Rattle.rules.specs.Sound.{Lengths}
 use Rattle.exports.specs.Array.{flags_from, flags_end, memory_from, lines_from, entries_from, entries_end, state_end}
 use Rattle.exports.specs.Array.{part, dims_in, machine_in, with_parts, blank, array_of, none_above, most_value, held_ok}
@@ -140,46 +141,46 @@ module _ (m : Machine) where
 
   pub array_length : length (array_of m) ≡ state_end
   unfolding array_of
-  array_length = parts_length sized sized_length (caches_of m)
+  array_length = parts_length sized sized_length m.caches
 
   size_at : (k : ℕ) → k < 4 → get_or (array_of m) k 0 ≡ get_or sizes k 0
   unfolding array_of
   size_at k l =
-      before_flags sized sized_length (caches_of m) k (omega arith) ∙
+      before_flags sized sized_length m.caches k (omega arith) ∙
       ap (λ (j : ℕ). get_or sized j 0) (sym (zero-add k)) ∙
       sets_in blank sizes 0 k l (omega (arith, blank_length))
 
-  entries_back : part entries_from 512 (array_of m) ≡ part 0 512 m.entries
+  entries_back : part entries_from 512 (array_of m) ≡ part 0 512 m.caches.entries
   unfolding array_of
-  entries_back = entries_put sized sized_length (caches_of m)
+  entries_back = entries_put sized sized_length m.caches
 
-  lines_back : part lines_from 512 (array_of m) ≡ part 0 512 m.lines
+  lines_back : part lines_from 512 (array_of m) ≡ part 0 512 m.caches.lines
   unfolding array_of
-  lines_back = lines_put sized sized_length (caches_of m)
+  lines_back = lines_put sized sized_length m.caches
 
-  memory_back : part memory_from 256 (array_of m) ≡ part 0 256 m.memory
+  memory_back : part memory_from 256 (array_of m) ≡ part 0 256 m.caches.memory
   unfolding array_of
-  memory_back = memory_put sized sized_length (caches_of m)
+  memory_back = memory_put sized sized_length m.caches
 
-  flags_back : part flags_from 16 (array_of m) ≡ part 0 16 m.flags
+  flags_back : part flags_from 16 (array_of m) ≡ part 0 16 m.caches.flags
   unfolding array_of
-  flags_back = flags_put sized sized_length (caches_of m)
+  flags_back = flags_put sized sized_length m.caches
 
   -- a place between the parts holds 0
   between_sizes : (k : ℕ) → 4 ≤ k → k < flags_from → get_or (array_of m) k 0 ≡ 0
   unfolding array_of
-  between_sizes k a b = before_flags sized sized_length (caches_of m) k b ∙ sized_zero k a (omega arith)
+  between_sizes k a b = before_flags sized sized_length m.caches k b ∙ sized_zero k a (omega arith)
 
   between_flags : (k : ℕ) → flags_end ≤ k → k < memory_from → get_or (array_of m) k 0 ≡ 0
   unfolding array_of
-  between_flags k a b = before_memory sized sized_length (caches_of m) k a b ∙ sized_zero k (omega arith) (omega arith)
+  between_flags k a b = before_memory sized sized_length m.caches k a b ∙ sized_zero k (omega arith) (omega arith)
 
   to_the_end : (k : ℕ) → entries_end ≤ k → k < state_end → get_or (array_of m) k 0 ≡ 0
   unfolding array_of
-  to_the_end k a b = past_entries sized sized_length (caches_of m) k a ∙ sized_zero k (omega arith) b
+  to_the_end k a b = past_entries sized sized_length m.caches k a ∙ sized_zero k (omega arith) b
 
   -- holds it, where its parts have their lengths
-  pub machine_back : Lengths (caches_of m) → machine_in (array_of m) ≡ m
+  pub machine_back : Lengths m.caches → machine_in (array_of m) ≡ m
   unfolding machine_in
   machine_back h =
       rw (
@@ -187,20 +188,20 @@ module _ (m : Machine) where
         size_at 1 (omega arith),
         size_at 2 (omega arith),
         size_at 3 (omega arith),
-        memory_back ∙ part_whole 256 m.memory h.memory,
-        lines_back ∙ part_whole 512 m.lines h.lines,
-        entries_back ∙ part_whole 512 m.entries h.entries,
-        flags_back ∙ part_whole 16 m.flags h.flags,
+        memory_back ∙ part_whole 256 m.caches.memory h.memory,
+        lines_back ∙ part_whole 512 m.caches.lines h.lines,
+        entries_back ∙ part_whole 512 m.caches.entries h.entries,
+        flags_back ∙ part_whole 16 m.caches.flags h.flags,
       )
 
-  flag_back : (i : ℕ) → i < 16 → get_or (array_of m) (flags_from + i) 0 ≡ get_or m.flags i 0
-  flag_back i l = part_same_at (array_of m) m.flags flags_from 0 16 i flags_back l ∙ ap (λ (j : ℕ). get_or m.flags j 0) (zero-add i)
+  flag_back : (i : ℕ) → i < 16 → get_or (array_of m) (flags_from + i) 0 ≡ get_or m.caches.flags i 0
+  flag_back i l = part_same_at (array_of m) m.caches.flags flags_from 0 16 i flags_back l ∙ ap (λ (j : ℕ). get_or m.caches.flags j 0) (zero-add i)
 
-  word_back : (i : ℕ) → i < 256 → get_or (array_of m) (memory_from + i) 0 ≡ get_or m.memory i 0
-  word_back i l = part_same_at (array_of m) m.memory memory_from 0 256 i memory_back l ∙ ap (λ (j : ℕ). get_or m.memory j 0) (zero-add i)
+  word_back : (i : ℕ) → i < 256 → get_or (array_of m) (memory_from + i) 0 ≡ get_or m.caches.memory i 0
+  word_back i l = part_same_at (array_of m) m.caches.memory memory_from 0 256 i memory_back l ∙ ap (λ (j : ℕ). get_or m.caches.memory j 0) (zero-add i)
 
   -- and passes the test, where its flags and its memory are in range
-  pub held_back : ((i : ℕ) → i < 16 → get_or m.flags i 0 ≤ true_flag) → ((i : ℕ) → i < 256 → get_or m.memory i 0 ≤ most_value) →
+  pub held_back : ((i : ℕ) → i < 16 → get_or m.caches.flags i 0 ≤ true_flag) → ((i : ℕ) → i < 256 → get_or m.caches.memory i 0 ≤ most_value) →
       held_ok (array_of m) ≡ true
   unfolding held_ok
   held_back f w =

@@ -1,14 +1,19 @@
 -- A part of one list copied place by place, out of it and into it.
 use mathlib.Core.Path.{◌≡◌, refl, sym, ◌∙◌, ap}
-use mathlib.Core.List.{List, [], ◌∷◌, ◌++◌}
+use mathlib.Core.List.{List, [], ◌∷◌, append_assoc}
 use Prim.Native.Nat.{ℕ, zero, suc, ◌+◌, ◌<◌, ◌≤◌}
 use native.Mathlib.Omega.{arith}
 use native.Mathlib.Nat.{add-zero, add-suc, suc-add, zero-add}
-use lib.ListN.{length, get_or, set, length-set}
-use lib.Seq.{sets, length-sets, ext_get_or, get_or-set_same, get_or-set_other}
-use Rattle.rules.specs.declared.Dims.{Dims}
-use Rattle.rules.specs.State.{caches, machine_of}
-use Rattle.exports.specs.Array.{memory_from, lines_from, entries_from, flags_from, part, dims_in, machine_in}
+use lib.ListN.{length, get_or, set, take, drop, length-set}
+use lib.Seq.{sets, length-sets, sets-eq, ext_get_or, get_or-set_same, get_or-set_other, drop-cons, drop-drop}
+use borrow.Rule.Slice.PartMut.{put_mid}
+use Rattle.std.specs.List.{AllZip}
+use Rattle.std.proofs.lemmas.List.{take_more, take_more_set}
+use Rattle.std.proofs.lemmas.Slice.Zip.{all_zipped_more}
+use Rattle.rules.specs.declared.Caches.{Caches}
+use Rattle.rules.specs.State.{caches, caches_of}
+use Rattle.rules.specs.Sound.{Lengths}
+use Rattle.exports.specs.Array.{memory_from, lines_from, entries_from, flags_from, state_end, part, machine_in, with_parts}
 
 pub part_length : (from n : ℕ) (s : List ℕ) → length (part from n s) ≡ n
 unfolding part
@@ -41,57 +46,22 @@ sets_in s (x ∷ l) at (suc i) h k =
     ap (λ (j : ℕ). get_or (sets (set s at x) (suc at) l) j 0) (add-suc at i ∙ sym (suc-add at i)) ∙
     sets_in (set s at x) l (suc at) i (omega arith) (omega (arith, length-set s at x))
 
--- one list written after another
-sets_two : (s l m : List ℕ) (at : ℕ) → sets s at (l ++ m) ≡ sets (sets s at l) (at + length l) m
-sets_two s [] m at = rw add-zero
-sets_two s (x ∷ l) m at =
-    sets_two (set s at x) l m (suc at) ∙
-    ap (λ (k : ℕ). sets (sets (set s at x) (suc at) l) k m) (suc-add at (length l) ∙ sym (add-suc at (length l)))
+-- A turn of a loop that writes y, made of x, over a place of a list: R is how a place is made.
+pub copied_more : {A B : Type 0} (R : A → B → Type 0) (xs : List A) (ys : List B) (i : ℕ) (x : A) (y : B) → i < length xs → i < length ys →
+    x ≡ get_or xs i x → R x y → AllZip R (take i xs) (take i ys) → AllZip R (take (i + 1) xs) (take (i + 1) (set ys i y))
+copied_more R xs ys i x y h l e r z =
+    rw (take_more xs i x h, take_more_set ys i y l, ← e) (all_zipped_more R (take i xs) (take i ys) x y z r)
 
-part_two : (from n k : ℕ) (s : List ℕ) → part from (n + k) s ≡ part from n s ++ part (from + n) k s
+-- a slice of a list is a part of it
+pub part_mid : (s : List ℕ) (from n : ℕ) → from + n ≤ length s → take n (drop from s) ≡ part from n s
 unfolding part
-part_two from zero k s = rw (zero-add, add-zero)
-part_two from (suc n) k s =
-    rw suc-add
-    (ap (λ (l : List ℕ). get_or s from 0 ∷ l)
-    (part_two (suc from) n k s ∙ ap (λ (j : ℕ). part (suc from) n s ++ part j k s) (suc-add from n ∙ sym (add-suc from n))))
+part_mid s from zero h = refl
+part_mid s from (suc n) h = rw (drop-cons s from 0 (omega arith)) (ap (λ (l : List ℕ). get_or s from 0 ∷ l) (part_mid s (suc from) n (omega arith)))
 
--- n numbers of l, from a place of it on, and then k more are written over s
-pub put_two : (s l : List ℕ) (at from n k : ℕ) →
-    sets (sets s at (part from n l)) (at + n) (part (from + n) k l) ≡ sets s at (part from (n + k) l)
-put_two s l at from n k =
-    rw (part_two from n k l, sets_two s (part from n l) (part (from + n) k l) at, part_length from n l)
-
--- the first n, then k more
-pub put_halves : (s l s1 s2 : List ℕ) (at n k : ℕ) → s1 ≡ sets s at (part 0 n l) → s2 ≡ sets s1 (at + n) (part n k l) →
-    s2 ≡ sets s at (part 0 (n + k) l)
-put_halves s l s1 s2 at n k e f =
-    f ∙ rw e (ap (λ (j : ℕ). sets (sets s at (part 0 n l)) (at + n) (part j k l)) (sym (zero-add n)) ∙ put_two s l at 0 n k)
-
--- A turn of a loop that copies: i numbers of l, from a place of it on, were written over s, which is now; one more is written.
-pub put_turn : (s l now : List ℕ) (at from i : ℕ) → now ≡ sets s at (part from i l) →
-    set now (at + i) (get_or l (from + i) 0) ≡ sets s at (part from (i + 1) l)
-unfolding part
-put_turn s l now at from i e = rw e (put_two s l at from i 1)
-
--- the same of l's first numbers, and of s's first places
-pub put_first : (s l now : List ℕ) (at i : ℕ) → now ≡ sets s at (part 0 i l) → set now (at + i) (get_or l i 0) ≡ sets s at (part 0 (i + 1) l)
-put_first s l now at i e = ap (λ (j : ℕ). set now (at + i) (get_or l j 0)) (sym (zero-add i)) ∙ put_turn s l now at 0 i e
-
-pub read_turn : (s l now : List ℕ) (from i : ℕ) → now ≡ sets s 0 (part from i l) → set now i (get_or l (from + i) 0) ≡ sets s 0 (part from (i + 1) l)
-read_turn s l now from i e = ap (λ (j : ℕ). set now j (get_or l (from + i) 0)) (sym (zero-add i)) ∙ put_turn s l now 0 from i e
-
--- all places of s written
-pub read_end : (s l now : List ℕ) (from i n : ℕ) → now ≡ sets s 0 (part from i l) → i ≡ n → length s ≡ n → now ≡ part from n l
-read_end s l now from i n e h k =
-    e ∙
-    ap (λ (j : ℕ). sets s 0 (part from j l)) h ∙
-    ext_get_or 0 (sets s 0 p) p (length-sets s 0 p ∙ k ∙ sym (part_length from n l))
-    (λ j b. ap (λ (m : ℕ). get_or (sets s 0 p) m 0) (sym (zero-add j)) ∙
-    sets_in s p 0 j (omega (arith, length-sets s 0 p, k, part_length from n l)) (omega (arith, k, part_length from n l)))
-  where
-    p : List ℕ
-    p = part from n l
+-- a list with another in the place of a slice of it
+pub put_is : (s l : List ℕ) (at n : ℕ) → length l ≡ n → at + n ≤ length s → put_mid at n s l ≡ sets s at l
+put_is s l at n e h =
+    rw (drop-drop n at s, ← e) (sym (append_assoc (take at s) l (drop (at + length l) s)) ∙ sym (sets-eq l s at (omega arith)))
 
 -- all numbers of a list
 pub part_whole : (n : ℕ) (l : List ℕ) → length l ≡ n → part 0 n l ≡ l
@@ -99,8 +69,41 @@ part_whole n l h =
     ext_get_or 0 (part 0 n l) l (part_length 0 n l ∙ sym h)
     (λ i b. part_at 0 n l i (omega (arith, part_length 0 n l)) ∙ ap (λ (j : ℕ). get_or l j 0) (zero-add i))
 
--- the machine whose parts were copied out of an array
-pub machine_is : (s : List ℕ) (d : Dims) (m l e f : List ℕ) → d ≡ dims_in s → m ≡ part memory_from 256 s → l ≡ part lines_from 512 s →
-    e ≡ part entries_from 512 s → f ≡ part flags_from 16 s → machine_of d (caches m l e f) ≡ machine_in s
+-- the array after each part was put into its places: f, m, l and e are what stands there
+pub parts_put : (s f m l e : List ℕ) (c : Caches) → length s ≡ state_end → Lengths c → f ≡ c.flags → m ≡ c.memory → l ≡ c.lines → e ≡ c.entries →
+    put_mid entries_from 512 (put_mid lines_from 512 (put_mid memory_from 256 (put_mid flags_from 16 s f) m) l) e ≡ with_parts s c
+unfolding with_parts
+parts_put s f m l e c long h ef em el ee =
+    rw (
+      ef,
+      em,
+      el,
+      ee,
+      put_is s c.flags flags_from 16 h.flags (omega arith),
+      put_is (sets s flags_from c.flags) c.memory memory_from 256 h.memory (omega (arith, length-sets s flags_from c.flags)),
+      put_is remembering c.lines lines_from 512 h.lines (omega (arith, remembering_length)),
+      put_is (sets remembering lines_from c.lines) c.entries entries_from 512 h.entries
+          (omega (arith, remembering_length, length-sets remembering lines_from c.lines)),
+      part_whole 16 c.flags h.flags,
+      part_whole 256 c.memory h.memory,
+      part_whole 512 c.lines h.lines,
+      part_whole 512 c.entries h.entries,
+    )
+  where
+    remembering : List ℕ
+    remembering = sets (sets s flags_from c.flags) memory_from c.memory
+
+    remembering_length : length remembering ≡ length s
+    remembering_length = length-sets (sets s flags_from c.flags) memory_from c.memory ∙ length-sets s flags_from c.flags
+
+-- the caches whose parts were read out of an array
+pub parts_read : (s m l e f : List ℕ) → state_end ≤ length s → m ≡ take 256 (drop memory_from s) → l ≡ take 512 (drop lines_from s) →
+    e ≡ take 512 (drop entries_from s) → f ≡ take 16 (drop flags_from s) → caches m l e f ≡ caches_of (machine_in s)
 unfolding machine_in
-machine_is s d m l e f ed em el ee ef = rw (ed, em, el, ee, ef)
+parts_read s m l e f long em el ee ef =
+    rw (
+      em ∙ part_mid s memory_from 256 (omega arith),
+      el ∙ part_mid s lines_from 512 (omega arith),
+      ee ∙ part_mid s entries_from 512 (omega arith),
+      ef ∙ part_mid s flags_from 16 (omega arith),
+    )

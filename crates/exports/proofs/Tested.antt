@@ -1,33 +1,23 @@
--- The test of a range of places, as its loop makes it, and as a fact.
-use mathlib.Core.Path.{◌≡◌, sym, ◌∙◌}
-use mathlib.Core.Bool.{Bool, true, false}
+-- The test of a range of places, of a slice and as a fact.
+use mathlib.Core.Path.{◌≡◌, sym, ap, ◌∙◌}
+use mathlib.Core.Bool.{true}
 use mathlib.Core.List.{List}
-use Prim.Native.Nat.{ℕ, ◌+◌, ◌-◌, ◌<◌, ◌≤◌}
+use Prim.Native.Nat.{ℕ, zero, suc, ◌+◌, ◌-◌, ◌<◌, ◌≤◌}
 use native.Mathlib.Omega.{arith}
-use lib.ListN.{length, get_or}
-use borrow.Author.Tests.{lt-ltb, le-ltb, ltb-false, eq-eqb, ne_eqb, eqb-true}
-use Rattle.laws.specs.Choice.{both, both_left, both_right}
-use Rattle.laws.specs.Search.{first_from, first_end, first_hit, first_miss, none_at, none_of}
+use lib.Dec.{eqb, leb}
+use lib.ListN.{length, get_or, take, drop}
+use borrow.Author.Tests.{le-ltb, ltb-false, eq-eqb, eqb-true}
+use Rattle.std.specs.List.{list_all}
+use Rattle.std.proofs.lemmas.Bool.Decides.{nat_tests}
+use Rattle.std.proofs.lemmas.List.{get_or_default}
+use Rattle.laws.specs.Search.{first_from, none_at, none_of}
 use Rattle.rules.specs.State.{true_flag}
-use Rattle.exports.specs.Array.{flags_from, flags_end, memory_from, lines_from, entries_end, state_end, exceeds, none_above, most_value, held_ok}
+use Rattle.exports.specs.Array.{part, flags_from, flags_end, memory_from, lines_from, entries_end, state_end, exceeds, none_above, most_value, held_ok}
+use Rattle.exports.proofs.Copied.{part_length, part_at, part_mid}
 
 module _ (s : List ℕ) (most from to : ℕ) where
-  abbrev pub found : ℕ
+  abbrev found : ℕ
   found = first_from (exceeds most s) from (to - from)
-
-  abbrev pub Same : ℕ → Type 0
-  Same i = first_from (exceeds most s) i (to - i) ≡ found
-
-  pub above_hit : (i : ℕ) → i < to → most < get_or s i 0 → Same i → none_above most from to s ≡ false
-  unfolding none_above
-  above_hit i l h e = ne_eqb found to (λ k. omega (arith, k, e, first_hit (exceeds most s) i to l (lt-ltb most (get_or s i 0) h)))
-
-  pub above_miss : (i : ℕ) → i < to → get_or s i 0 ≤ most → Same i → Same (i + 1)
-  above_miss i l h e = sym (first_miss (exceeds most s) i to l (le-ltb most (get_or s i 0) h)) ∙ e
-
-  pub above_end : (i : ℕ) → to ≤ i → i ≤ to → Same i → none_above most from to s ≡ true
-  unfolding none_above
-  above_end i l h e = eq-eqb found to (omega (arith, e, first_end (exceeds most s) i to l))
 
   -- the test as a fact, and back
   pub none_above_at : from ≤ to → none_above most from to s ≡ true → (i : ℕ) → from ≤ i → i < to → get_or s i 0 ≤ most
@@ -42,20 +32,34 @@ module _ (s : List ℕ) (most from to : ℕ) where
       eq-eqb found to
       (omega (arith, none_of (exceeds most s) from (to - from) (λ k a b. le-ltb most (get_or s k 0) (f k a (omega arith)))))
 
--- what six tests that are one say of each
-each_of_six : (a b c d e f : Bool) → both a (both b (both c (both d (both e f)))) ≡ true →
-    (a ≡ true) × (b ≡ true) × (c ≡ true) × (d ≡ true) × (e ≡ true) × (f ≡ true)
-each_of_six a b c d e f h =
-    let i = both_right a (both b (both c (both d (both e f)))) h in
-    let j = both_right b (both c (both d (both e f))) i in
-    let k = both_right c (both d (both e f)) j in
-    let l = both_right d (both e f) k in (
-      both_left a (both b (both c (both d (both e f)))) h,
-      both_left b (both c (both d (both e f))) i,
-      both_left c (both d (both e f)) j,
-      both_left d (both e f) k,
-      both_left e f l,
-      both_right e f l,
+-- the test of each number of a part, and of a slice
+none_above_part : (s : List ℕ) (most from n to : ℕ) → from + n ≡ to →
+    list_all (λ x. leb x most) (part from n s) ≡ eqb (first_from (exceeds most s) from n) to
+unfolding part first_from
+none_above_part s most from zero to e = sym (eq-eqb from to (omega arith))
+none_above_part s most from (suc n) to e =
+    let rest = none_above_part s most (suc from) n to (omega arith) in
+    grind (arith, nat_tests)
+
+pub none_above_mid : (s : List ℕ) (most from n to : ℕ) → from + n ≡ to → to ≤ length s →
+    list_all (λ x. leb x most) (take n (drop from s)) ≡ none_above most from to s
+unfolding none_above
+none_above_mid s most from n to e h =
+    let k : to - from ≡ n = omega arith in
+    ap (λ (p : List ℕ). list_all (λ x. leb x most) p) (part_mid s from n (omega arith)) ∙ rw k (none_above_part s most from n to e)
+
+-- and as a fact of each
+pub none_above_in : (s : List ℕ) (most from n : ℕ) → from + n ≤ length s → none_above most from (from + n) s ≡ true →
+    (i d : ℕ) → i < length (take n (drop from s)) → get_or (take n (drop from s)) i d ≤ most
+none_above_in s most from n h t i d l =
+    let e = part_mid s from n h in
+    let k : i < n = omega (arith, ap length e, part_length from n s) in
+    omega (
+      arith,
+      get_or_default (take n (drop from s)) i d 0 l,
+      ap (λ (p : List ℕ). get_or p i 0) e,
+      part_at from n s i k,
+      none_above_at s most from (from + n) (omega arith) t (from + i) (omega arith) (omega arith),
     )
 
 -- what the test of an array says of it
@@ -69,6 +73,11 @@ pub record Held (s : List ℕ) : Type 0 where
 
 pub held : (s : List ℕ) → held_ok s ≡ true → Held s
 unfolding held_ok
-held s h =
-    let t = each_of_six _ _ _ _ _ _ h in
-    record { long = eqb-true (length s) state_end t.0; first = t.1; flags = t.2; between = t.3; memory = t.4; last = t.5 }
+held s h = record {
+  long = grind (arith, nat_tests);
+  first = grind (arith, nat_tests);
+  flags = grind (arith, nat_tests);
+  between = grind (arith, nat_tests);
+  memory = grind (arith, nat_tests);
+  last = grind (arith, nat_tests);
+}

@@ -5,7 +5,8 @@ use Rattle.laws.specs.Choice.{both}
 use Rattle.laws.specs.Search.{first_from}
 use Rattle.rules.specs.declared.Dims.{Dims}
 use Rattle.rules.specs.declared.Machine.{Machine}
-use Rattle.rules.specs.State.{Caches, caches, caches_of, machine_of, true_flag}
+use Rattle.rules.specs.declared.Caches.{Caches}
+use Rattle.rules.specs.State.{caches, caches_of, machine_of, true_flag}
 use Rattle.rules.specs.Making.{dims}
 
 -- Places 0 to 3 hold the dimensions. Then, each part from a place on and as a machine has it: TACTIVE and TSTATUS of the processors, the

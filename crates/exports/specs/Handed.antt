@@ -7,12 +7,11 @@ use Rattle.entry.specs.declared.step.Step.{Step}
 use Rattle.entry.specs.Answer.{answer_number, answer_value, refusal_number}
 use Rattle.entry.specs.Refusals.{accepted, not_sound, unless}
 use Rattle.rules.specs.declared.Dims.{Dims}
-use Rattle.rules.specs.declared.Ran.{Ran}
 use Rattle.rules.specs.State.{caches_of}
 use Rattle.rules.specs.Making.{make_of}
 use Rattle.rules.specs.SoundTest.{sound_of}
 use Rattle.rules.specs.Step.{step_of, settle_of}
-use Rattle.rules.specs.Run.{Steps, Columns, run_of}
+use Rattle.rules.specs.Run.{Steps, Columns, Ran, run_of}
 use Rattle.exports.specs.Array.{machine_in, array_of, held_ok}
 
 pub record Handed (A : Type 0) : Type 0 where

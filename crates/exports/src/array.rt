@@ -1,46 +1,42 @@
 // The machine that the array holds: tested, taken out of it, put into it.
 
-ghost use Rattle.std.specs.Prelude.{◌≡◌, true, ◌≤◌, eqb, length};
-ghost use Rattle.rules.specs.State.{caches};
-ghost use Rattle.exports.specs.Array.{state_end, none_above, held_ok, dims_in, machine_in, with_parts, array_of};
+ghost use Rattle.std.specs.Prelude.{◌≡◌, true, leb};
+ghost use Rattle.std.specs.List.{list_all};
+ghost use Rattle.entry.specs.declared.refusals.Refusal.TheVariants.{NotSound};
+ghost use Rattle.entry.specs.Refusals.{unless};
+ghost use Rattle.rules.specs.State.{caches_of};
+ghost use Rattle.exports.specs.Array.{held_ok, dims_in, machine_in, with_parts, array_of};
 
-use crate::copying;
+use crate::copying::{copy_by, put_copies};
 use crate::places::{
-    ENTRIES_END, ENTRIES_FROM, FLAGS_END, FLAGS_FROM, LINES_FROM, MEMORY_FROM, STATE_END, State,
+    ENTRIES_END, ENTRIES_FROM, FLAGS_END, FLAGS_FROM, LINES_FROM, MEMORY_FROM, State,
 };
-use rules::{Copies, Dims, Flags, Machine, Memory};
+use entry::refusals::Refusal;
+use rules::{Caches, Dims, Machine};
 
-fn none_above(state: &State, most: u64, from: usize, to: usize) -> bool
-    requires { (from ≤ to) × (to ≤ state_end) }
-    ensures { result ≡ none_above most from to state.now }
+// What is read into.
+pub(crate) const UNREAD: Caches = Caches {
+    memory: [0; 256],
+    lines: [0; 512],
+    entries: [0; 512],
+    flags: [0; 16],
+};
+
+fn none_above(most: u64, places: &[u64]) -> bool
+    ensures { result ≡ list_all (λ place. leb place most) places.now }
 {
-    let mut i = from;
-    while i < to {
-        if state[i] > most {
-            return false;
-        }
-        i += 1;
-    }
-    true
+    places.iter().all(|place| *place <= most)
 }
 
-// A caller's array has this length by type. The definitions speak of lists, which have any, and an array tells its list's length where it is made
-// a slice.
-fn is_whole(state: &[u64]) -> bool
-    ensures { result ≡ eqb (length state.now) state_end }
-{
-    state.len() == STATE_END
-}
-
+// The definitions speak of lists, which have any length; an array has its own by type.
 pub(crate) fn held_ok(state: &State) -> bool
     ensures { result ≡ held_ok state.now }
 {
-    is_whole(state)
-        & none_above(state, 0, 4, FLAGS_FROM)
-        & none_above(state, 1, FLAGS_FROM, FLAGS_END)
-        & none_above(state, 0, FLAGS_END, MEMORY_FROM)
-        & none_above(state, 4294967295, MEMORY_FROM, LINES_FROM)
-        & none_above(state, 0, ENTRIES_END, STATE_END)
+    none_above(0, &state[4..FLAGS_FROM])
+        & none_above(1, &state[FLAGS_FROM..FLAGS_END])
+        & none_above(0, &state[FLAGS_END..MEMORY_FROM])
+        & none_above(4294967295, &state[MEMORY_FROM..LINES_FROM])
+        & none_above(0, &state[ENTRIES_END..])
 }
 
 pub(crate) fn dims_of(state: &State) -> Dims
@@ -54,52 +50,65 @@ pub(crate) fn dims_of(state: &State) -> Dims
     }
 }
 
-pub(crate) fn machine_of(state: &State) -> Machine
+// In place: caches that are handed back by value are copied twice more, a fifth of the time of a run of one step.
+pub(crate) fn read_caches(c: &mut Caches, state: &State)
     requires { held_ok state.now ≡ true }
-    ensures { result ≡ machine_in state.now }
+    ensures { c.new ≡ caches_of (machine_in state.now) }
 {
-    let memory = copying::memory_of(state);
-    let lines = copying::copies_of(state, LINES_FROM);
-    let entries = copying::copies_of(state, ENTRIES_FROM);
-    let flags = copying::flags_of(state);
-    let d = dims_of(state);
-    Machine {
-        dims: d,
-        memory: memory,
-        lines: lines,
-        entries: entries,
-        flags: flags,
+    copy_by(
+        &state[MEMORY_FROM..LINES_FROM],
+        &mut c.memory,
+        |place| place as u32,
+    );
+    c.lines.copy_from_slice(&state[LINES_FROM..ENTRIES_FROM]);
+    c.entries.copy_from_slice(&state[ENTRIES_FROM..ENTRIES_END]);
+    copy_by(
+        &state[FLAGS_FROM..FLAGS_END],
+        &mut c.flags,
+        |place| place as u8,
+    );
+}
+
+pub(crate) fn caches_of(state: &State) -> Caches
+    requires { held_ok state.now ≡ true }
+    ensures { result ≡ caches_of (machine_in state.now) }
+{
+    let mut c = UNREAD;
+    read_caches(&mut c, state);
+    c
+}
+
+// An array that holds no machine is no sound state.
+#[tactic(auto, unfolding(crate::specs::Array::machine_in))]
+pub(crate) fn machine_of(state: &State) -> Result<Machine, Refusal>
+    ensures { result ≡ unless (held_ok state.now) (Err NotSound) (Ok (machine_in state.now)) }
+{
+    if !held_ok(state) {
+        return Err(Refusal::NotSound);
     }
+    Ok(Machine {
+        dims: dims_of(state),
+        caches: caches_of(state),
+    })
 }
 
-pub(crate) fn put_parts(
-    state: &mut State,
-    memory: &Memory,
-    lines: &Copies,
-    entries: &Copies,
-    flags: &Flags,
-)
-    ensures { state.new ≡ with_parts state.old (caches memory.now lines.now entries.now flags.now) }
+pub(crate) fn put_caches(state: &mut State, c: &Caches)
+    ensures { state.new ≡ with_parts state.old c.now }
 {
-    copying::put_flags(state, flags);
-    copying::put_memory(state, memory);
-    copying::put_copies(state, LINES_FROM, lines);
-    copying::put_copies(state, ENTRIES_FROM, entries);
+    copy_by(&c.flags, &mut state[FLAGS_FROM..FLAGS_END], u64::from);
+    copy_by(&c.memory, &mut state[MEMORY_FROM..LINES_FROM], u64::from);
+    put_copies(&c.lines, &mut state[LINES_FROM..ENTRIES_FROM]);
+    put_copies(&c.entries, &mut state[ENTRIES_FROM..ENTRIES_END]);
 }
 
-pub(crate) fn put_machine(state: &mut State, m: Machine)
-    ensures { state.new ≡ array_of m }
+#[tactic(auto, unfolding(crate::specs::Array::array_of, crate::specs::Array::blank))]
+pub(crate) fn put_machine(state: &mut State, m: &Machine)
+    ensures { state.new ≡ array_of m.now }
 {
-    let d = m.dims;
-    *state = [0u64; 2048];
-    state[0] = d.processors as u64;
-    state[1] = d.words as u64;
-    state[2] = d.lines as u64;
-    state[3] = d.entries as u64;
-    // two fields of one machine are not lent at once
-    let memory = m.memory;
-    let lines = m.lines;
-    let entries = m.entries;
-    let flags = m.flags;
-    put_parts(state, &memory, &lines, &entries, &flags);
+    *state = [0; 2048];
+    state[0] = m.dims.processors as u64;
+    state[1] = m.dims.words as u64;
+    state[2] = m.dims.lines as u64;
+    state[3] = m.dims.entries as u64;
+    put_caches(state, &m.caches);
 }

@@ -10,16 +10,21 @@ mod places;
 ghost use Rattle.std.specs.Prelude.{◌≡◌};
 ghost use Rattle.entry.specs.Step.{step};
 ghost use Rattle.rules.specs.Making.{dims};
-ghost use Rattle.rules.specs.Lent.{lent_steps, columns_of};
+ghost use Rattle.runs.specs.Halting.{taken_of, ended_as};
+ghost use Rattle.runs.specs.Lists.{step_lists, lists, SameSlices};
 ghost use Rattle.exports.specs.Handed.{handed, make_in, sound_in, step_lent, step_in, run_lent, run_in, settle_in};
 
-use crate::array::{dims_of, held_ok, machine_of, put_machine, put_parts};
-use crate::copying::wide_number;
+use crate::array::{UNREAD, dims_of, held_ok, machine_of, put_caches, put_machine, read_caches};
 pub use crate::places::State;
-use crate::places::{ENTRIES_FROM, LINES_FROM};
-use entry::refusals::{ACCEPTED, NOT_SOUND};
+use entry::refusals::Refusal;
+use rules::Dims;
+use runs::{Columns, Halt, Steps};
+
+// C is told a refusal by its number, and by this number that there is none.
+const ACCEPTED: u8 = 0;
 
 // initial is the memory that the caller gives. What the array held before does not matter.
+#[tactic(auto, unfolding(crate::specs::Handed::make_in))]
 pub fn stirnfeld_make(
     processors: usize,
     words: usize,
@@ -30,82 +35,66 @@ pub fn stirnfeld_make(
 ) -> u8
     ensures { handed result state.new ≡ make_in (dims processors words lines entries) initial.now state.old }
 {
-    let made = machine::make(processors, words, lines, entries, initial);
-    if made.refusal != ACCEPTED {
-        return made.refusal;
+    let dims = Dims {
+        processors,
+        words,
+        lines,
+        entries,
+    };
+    match machine::make(dims, initial) {
+        Ok(m) => {
+            put_machine(state, &m);
+            ACCEPTED
+        }
+        Err(refusal) => refusal.into(),
     }
-    put_machine(state, made.machine);
-    ACCEPTED
 }
 
+#[tactic(auto, unfolding(crate::specs::Handed::sound_in))]
 pub fn stirnfeld_sound(state: &State) -> u8
     ensures { result ≡ sound_in state.now }
 {
-    if !held_ok(state) {
-        return NOT_SOUND;
-    }
-    let m = machine_of(state);
-    if machine::sound(m) {
+    if machine_of(state).is_ok_and(machine::sound) {
         return ACCEPTED;
     }
-    NOT_SOUND
+    Refusal::NotSound.into()
 }
 
-// The number of steps that were taken goes into taken; where the whole run is refused, 0. The machine is nowhere by value: its parts are copied out
-// of the array, lent, and copied back.
+// How a run of n steps ended, in C's numbers: how many were taken, and the refusal.
+fn in_numbers(n: usize, ended: Result<(), Halt>) -> (usize, u8)
+    ensures { result ≡ (taken_of n ended, ended_as ended) }
+{
+    match ended {
+        Ok(()) => (n, ACCEPTED),
+        Err(halt) => (halt.taken, halt.refusal.into()),
+    }
+}
+
+// The number of steps that were taken goes into taken; where the whole run is refused, 0. The machine is nowhere by value: its caches are copied
+// out of the array, lent, and copied back.
 pub fn stirnfeld_run(
     state: &mut State,
-    ops: &[u8],
-    cores: &[u8],
-    used_words: &[u32],
-    values: &[u32],
-    answers: &mut [u8],
-    results: &mut [u32],
-    reads: &mut [u32],
-    rfos: &mut [u32],
-    writes: &mut [u32],
-    t_reads: &mut [u32],
-    t_rfos: &mut [u32],
-    busies: &mut [u32],
+    steps: &Steps<'_>,
+    columns: &mut Columns<'_>,
     taken: &mut usize,
 ) -> u8
-    ensures { let c = columns_of answers results reads rfos writes t_reads t_rfos busies in
-        handed result (run_lent taken.new state.new c.exit) ≡
-        run_in state.old (lent_steps ops cores used_words values) c.entry }
+    ensures same_slices { SameSlices columns.new columns.old }
+    ensures run { handed result (run_lent taken.new state.new (lists columns.new)) ≡
+        run_in state.old (step_lists steps.now) (lists columns.old) }
 {
     if !held_ok(state) {
         *taken = 0;
-        return NOT_SOUND;
+        return Refusal::NotSound.into();
     }
-    let d = dims_of(state);
-    let mut memory = copying::memory_of(state);
-    let mut lines = copying::copies_of(state, LINES_FROM);
-    let mut entries = copying::copies_of(state, ENTRIES_FROM);
-    let mut flags = copying::flags_of(state);
-    let h = runs::run_lent(
-        &mut memory,
-        &mut lines,
-        &mut entries,
-        &mut flags,
-        d,
-        ops,
-        cores,
-        used_words,
-        values,
-        answers,
-        results,
-        reads,
-        rfos,
-        writes,
-        t_reads,
-        t_rfos,
-        busies,
-    );
-    *taken = h.taken;
-    if h.taken != 0 {
-        put_parts(state, &memory, &lines, &entries, &flags);
+    let mut c = UNREAD;
+    read_caches(&mut c, state);
+    let ended = runs::run_lent(&mut c, dims_of(state), steps, columns);
+    let (count, refusal) = in_numbers(steps.ops.len(), ended);
+    *taken = count;
+    if count != 0 {
+        put_caches(state, &c);
     }
-    h.refusal
+    refusal
 }
 
 // told becomes the answer's number, its value, and the six counts. The step is a run of one place: so the library has one call of the machine's
@@ -120,36 +109,32 @@ pub fn stirnfeld_step(
 ) -> u8
     ensures { handed result (step_lent state.new told.new) ≡ step_in state.old (step op core word value) told.old }
 {
-    let mut number = [0u8];
-    let mut result = [0u32];
-    let mut read = [0u32];
-    let mut rfo = [0u32];
-    let mut write = [0u32];
-    let mut t_read = [0u32];
-    let mut t_rfo = [0u32];
-    let mut busy = [0u32];
-    let mut taken: usize = 0;
-    let refusal = stirnfeld_run(
-        state,
-        &[op],
-        &[core],
-        &[word],
-        &[value],
-        &mut number,
-        &mut result,
-        &mut read,
-        &mut rfo,
-        &mut write,
-        &mut t_read,
-        &mut t_rfo,
-        &mut busy,
-        &mut taken,
-    );
+    let (mut answer, mut result) = ([0], [0]);
+    let (mut read, mut rfo, mut write) = ([0], [0], [0]);
+    let (mut t_read, mut t_rfo, mut busy) = ([0], [0], [0]);
+    let steps = Steps {
+        ops: &[op],
+        cores: &[core],
+        words: &[word],
+        values: &[value],
+    };
+    let mut columns = Columns {
+        answers: &mut answer,
+        results: &mut result,
+        read: &mut read,
+        rfo: &mut rfo,
+        write: &mut write,
+        t_read: &mut t_read,
+        t_rfo: &mut t_rfo,
+        busy: &mut busy,
+    };
+    let mut taken = 0;
+    let refusal = stirnfeld_run(state, &steps, &mut columns, &mut taken);
     if refusal != ACCEPTED {
         return refusal;
     }
     *told = [
-        wide_number(number[0]),
+        answer[0].into(),
         result[0],
         read[0],
         rfo[0],
@@ -162,18 +147,15 @@ pub fn stirnfeld_step(
 }
 
 // values becomes every word's settled value, and 0 past the words.
+#[tactic(auto, unfolding(crate::specs::Handed::settle_in))]
 pub fn stirnfeld_settle(state: &State, values: &mut [u32; 256]) -> u8
     ensures { handed result values.new ≡ settle_in state.now values.old }
 {
-    if !held_ok(state) {
-        return NOT_SOUND;
+    match machine_of(state).and_then(machine::settle) {
+        Ok(all) => {
+            *values = all;
+            ACCEPTED
+        }
+        Err(refusal) => refusal.into(),
     }
-    let m = machine_of(state);
-    let settled = machine::settle(m);
-    if settled.refusal != ACCEPTED {
-        return settled.refusal;
-    }
-    let all = settled.values;
-    *values = all;
-    ACCEPTED
 }

@@ -1,4 +1,4 @@
-// The places of the array, as specs/Array.antt has them. Places 0 to 3 hold the dimensions.
+// The places of the array, as specs/Array.antt and include/stirnfeld.h have them. Places 0 to 3 hold the dimensions.
 
 pub(crate) const FLAGS_FROM: usize = 16;
 
@@ -11,7 +11,5 @@ pub(crate) const LINES_FROM: usize = 512;
 pub(crate) const ENTRIES_FROM: usize = 1024;
 
 pub(crate) const ENTRIES_END: usize = 1536;
-
-pub(crate) const STATE_END: usize = 2048;
 
 pub type State = [u64; 2048];

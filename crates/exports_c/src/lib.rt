@@ -10,6 +10,7 @@ ghost use Rattle.rules.specs.Lent.{lent_steps, columns_of};
 ghost use Rattle.exports.specs.Handed.{handed, make_in, sound_in, step_lent, step_in, run_lent, run_in, settle_in};
 
 use exports::State;
+use runs::{Columns, Steps};
 
 #[unsafe(no_mangle)]
 pub extern "C" fn stirnfeld_make(
@@ -32,6 +33,7 @@ pub extern "C" fn stirnfeld_sound(state: &State) -> u8
     exports::stirnfeld_sound(state)
 }
 
+// C lends each column by itself: include/stirnfeld.h names them.
 #[unsafe(no_mangle)]
 pub extern "C" fn stirnfeld_run(
     state: &mut State,
@@ -53,10 +55,23 @@ pub extern "C" fn stirnfeld_run(
         handed result (run_lent taken.new state.new c.exit) ≡
         run_in state.old (lent_steps ops cores used_words values) c.entry }
 {
-    exports::stirnfeld_run(
-        state, ops, cores, used_words, values, answers, results, reads, rfos, writes, t_reads,
-        t_rfos, busies, taken,
-    )
+    let steps = Steps {
+        ops,
+        cores,
+        words: used_words,
+        values,
+    };
+    let mut columns = Columns {
+        answers,
+        results,
+        read: reads,
+        rfo: rfos,
+        write: writes,
+        t_read: t_reads,
+        t_rfo: t_rfos,
+        busy: busies,
+    };
+    exports::stirnfeld_run(state, &steps, &mut columns, taken)
 }
 
 #[unsafe(no_mangle)]

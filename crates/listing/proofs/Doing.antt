@@ -4,7 +4,7 @@ use mathlib.Core.Bool.{Bool, true, false, not, true≢false}
 use mathlib.Core.List.{List}
 use Prim.Native.Nat.{ℕ, ◌+◌, ◌≤◌, ◌<◌}
 use native.Mathlib.Omega.{arith}
-use borrow.Author.Tests.{not-true, not-false, eq-eqb, ne_eqb, lt-ltb, le-ltb}
+use borrow.Author.Tests.{eq-eqb, ne_eqb}
 use lib.Dec.{ltb, leb}
 use lib.ListN.{length}
 use lib.Seq.{sets}
@@ -12,14 +12,15 @@ use Rattle.laws.specs.Choice.{both}
 use Rattle.entry.specs.declared.answer.Answered.{Answered}
 use Rattle.entry.specs.Answer.{refused_by}
 use Rattle.rules.specs.declared.Dims.{Dims}
-use Rattle.rules.specs.State.{Caches, outcome}
+use Rattle.rules.specs.declared.Caches.{Caches}
+use Rattle.rules.specs.State.{outcome}
 use Rattle.text.specs.Writing.{Filled, filled, put_of}
 use Rattle.text.proofs.Puts.{put_fit}
 use Rattle.listing.specs.declared.places.Place.{Place}
-use Rattle.listing.specs.declared.records.Looked.{Looked}
-use Rattle.listing.specs.Place.{HEADER, REFUSAL, END, NOTHING, with_phase, more64, first_phase}
+use Rattle.listing.specs.Phases.{HEADER, REFUSAL, END, NOTHING}
+use Rattle.listing.specs.Place.{with_phase, more64, first_phase}
 use Rattle.listing.specs.Lines.{most_line, answer_line, end_line, header_line}
-use Rattle.listing.specs.Records.{look_at, answer_of, place_after}
+use Rattle.listing.specs.Records.{Looked, look_at, answer_of, place_after}
 use Rattle.listing.specs.Pieces.{Filling, filling, run_to, stops, piece_turn, piece_of}
 use Rattle.listing.specs.Listing.{Going, going, do_record, do_other, do_line, wrote_line, goes_on, line_of, next_at, lines_left, fill_of}
 use Rattle.listing.proofs.Fitting.{answer_fair, end_fair}
@@ -58,21 +59,14 @@ module _ (s : List ℕ) (x : Place) (used : ℕ) (o : List ℕ) (room : used + m
       let q = put_did (answer_line 0 a) o o' used k (omega (arith, (answer_fair 0 a).1)) ep in
       rw (ne_eqb x.phase HEADER n, eq-eqb x.phase REFUSAL h, ← ea, ey, q.0, q.1)
 
-  pub end_did : (x.phase ≡ HEADER → ⊥) → (x.phase ≡ REFUSAL → ⊥) →
-      filled k o' ≡ put_of (end_line x.commits x.cycles) (filled used o) → y ≡ with_phase x NOTHING →
+  pub end_did : (m t : ℕ) → (x.phase ≡ HEADER → ⊥) → (x.phase ≡ REFUSAL → ⊥) → m ≡ x.commits → t ≡ x.cycles →
+      filled k o' ≡ put_of (end_line m t) (filled used o) → y ≡ with_phase x NOTHING →
       (c : Caches) → filling (going y c) k o' ≡ wrote_line (do_other s x c) used o
   unfolding do_other
-  end_did n h ep ey c =
-      let q = put_did (end_line x.commits x.cycles) o o' used k (omega (arith, (end_fair x.commits x.cycles).1)) ep in
+  end_did m t n h em et ep ey c =
+      let p = rw (em, et) at ep in
+      let q = put_did (end_line x.commits x.cycles) o o' used k (omega (arith, (end_fair x.commits x.cycles).1)) p in
       rw (ne_eqb x.phase HEADER n, ne_eqb x.phase REFUSAL h, ey, q.0, q.1)
-
--- the test of the room, where the buffer is as long as it was
-module _ (used n : ℕ) (o : List ℕ) (b : Bool) (same : length o ≡ n) (e : b ≡ leb (used + most_line) n) where
-  pub no_room : not b ≡ true → leb (used + most_line) (length o) ≡ false
-  no_room t = rw same (sym e ∙ not-true b t)
-
-  pub some_room : not b ≡ false → leb (used + most_line) (length o) ≡ true
-  some_room t = rw same (sym e ∙ not-false b t)
 
 module _ (s : List ℕ) (d : Dims) where
   abbrev pub stop : Filling Going → Bool
@@ -98,9 +92,9 @@ module _ (s : List ℕ) (d : Dims) where
 
   -- the loop's two ends, and its turn
   pub ended_lines : (x : Place) (c : Caches) (used : ℕ) (o : List ℕ) (w : Filling Going) → fill_from (filling (going x c) used o) ≡ w →
-      NOTHING ≤ x.phase → filling (going x c) used o ≡ w
+      ltb x.phase NOTHING ≡ false → filling (going x c) used o ≡ w
   ended_lines x c used o w e h =
-      sym (run_stop stop go (lines_left s d (going x c)) (filling (going x c) used o) (rw (le-ltb x.phase NOTHING h))) ∙ e
+      sym (run_stop stop go (lines_left s d (going x c)) (filling (going x c) used o) (rw h)) ∙ e
 
   pub ended_room : (x : Place) (c : Caches) (used : ℕ) (o : List ℕ) (w : Filling Going) → fill_from (filling (going x c) used o) ≡ w →
       leb (used + most_line) (length o) ≡ false → filling (going x c) used o ≡ w
@@ -111,17 +105,22 @@ module _ (s : List ℕ) (d : Dims) where
       by true = rw h
       by false = refl
 
+  -- the buffer that was lent holds what the page held
+  pub ended_in : (x : Place) (c : Caches) (used : ℕ) (o o' : List ℕ) (w : Filling Going) → o' ≡ o → filling (going x c) used o ≡ w →
+      filling (going x c) used o' ≡ w
+  ended_in x c used o o' w h e = rw h e
+
   pub went_on : (x : Place) (c : Caches) (used : ℕ) (o : List ℕ) (w : Filling Going) → fill_from (filling (going x c) used o) ≡ w →
-      x.phase < NOTHING → leb (used + most_line) (length o) ≡ true → (v : Filling Going) → v ≡ wrote_line (do_line s d x c) used o → fill_from v ≡ w
+      ltb x.phase NOTHING ≡ true → leb (used + most_line) (length o) ≡ true → (v : Filling Going) → v ≡ wrote_line (do_line s d x c) used o → fill_from v ≡ w
   went_on x c used o w e h r v ev =
       rw ev
       (sym
       (run_turn stop go (λ (z : Filling Going). lines_left s d z.state) stop_falls (filling (going x c) used o)
-      (rw (lt-ltb x.phase NOTHING h, r))) ∙
+      (rw (h, r))) ∙
       e)
 
-  pub less : (x : Place) (c : Caches) (used : ℕ) (o : List ℕ) → x.phase < NOTHING → (y : Place) (c' : Caches) (k : ℕ) (o' : List ℕ) →
+  pub less : (x : Place) (c : Caches) (used : ℕ) (o : List ℕ) → ltb x.phase NOTHING ≡ true → (y : Place) (c' : Caches) (k : ℕ) (o' : List ℕ) →
       filling (going y c') k o' ≡ wrote_line (do_line s d x c) used o → lines_left s d (going y c') < lines_left s d (going x c)
   less x c used o h y c' k o' e =
       let g : lines_left s d (going y c') ≡ lines_left s d (next_at s d (going x c)) = ap (λ (z : Filling Going). lines_left s d z.state) e in
-      omega (arith, g, falls s d (going x c) (lt-ltb x.phase NOTHING h))
+      omega (arith, g, falls s d (going x c) h)

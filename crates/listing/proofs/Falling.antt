@@ -5,21 +5,19 @@ use mathlib.Core.List.{List}
 use Prim.Native.Nat.{ℕ, ◌+◌, ◌-◌, ◌≤◌, ◌<◌}
 use native.Mathlib.Omega.{arith}
 use borrow.Author.Tests.{ltb-true, ltb-false, eqb-true, eqb-false, le-ltb}
-use lib.Dec.{eqb, ltb, leb}
+use lib.Dec.{eqb, ltb}
 use lib.ListN.{length}
 use Rattle.laws.specs.Choice.{pick}
 use Rattle.laws.specs.Search.{first_from}
 use Rattle.rules.specs.declared.Dims.{Dims}
-use Rattle.rules.specs.State.{Caches}
+use Rattle.rules.specs.declared.Caches.{Caches}
 use Rattle.entry.specs.Refusals.{accepted, too_long, unless}
-use Rattle.text.specs.declared.records.Record.{Record}
-use Rattle.text.specs.declared.records.Record.TheVariants as record_is
-use Rattle.text.specs.Records.{record_end, record_of}
+use Rattle.text.specs.Records.{record_end, record_refusal}
 use Rattle.text.proofs.Ends.{end_range}
 use Rattle.listing.specs.declared.places.Place.{Place}
-use Rattle.listing.specs.declared.records.Looked.{Looked}
-use Rattle.listing.specs.Place.{HEADER, REFUSAL, RECORD, END, NOTHING, past, phase_at, first_phase}
-use Rattle.listing.specs.Records.{most_bytes, no_fields, looked, looked_in, look_at, phase_after, place_after}
+use Rattle.listing.specs.Phases.{HEADER, REFUSAL, RECORD, END, NOTHING}
+use Rattle.listing.specs.Place.{past, phase_at, first_phase}
+use Rattle.listing.specs.Records.{Looked, look_at, phase_after, place_after}
 use Rattle.listing.specs.Listing.{Did, Going, goes_on, line_of, next_at, lines_left, do_record, do_other, do_line}
 use Rattle.listing.proofs.Fitting.{IsFair, answer_fair, end_fair}
 
@@ -62,7 +60,7 @@ module _ (s : List ℕ) where
 
   after_on : (l : Looked) → RECORD ≤ phase_after s l
   unfolding phase_after
-  after_on l = by (eqb l.refusal too_long)
+  after_on l = by (eqb (record_refusal l.fields) too_long)
     where
       by : (b : Bool) → RECORD ≤ pick b END (phase_at s l.next)
       by true = omega arith
@@ -70,7 +68,7 @@ module _ (s : List ℕ) where
 
   after_end : (l : Looked) → length s ≤ l.next → phase_after s l ≡ END
   unfolding phase_after
-  after_end l h = by (eqb l.refusal too_long)
+  after_end l h = by (eqb (record_refusal l.fields) too_long)
     where
       by : (b : Bool) → pick b END (phase_at s l.next) ≡ END
       by true = refl
@@ -78,14 +76,7 @@ module _ (s : List ℕ) where
 
   look_next : (x : Place) → (look_at s x).next ≡ past s (record_end s x.at)
   unfolding look_at
-  look_next x = by (leb (past s (record_end s x.at)) most_bytes) (record_of s x.at (record_end s x.at))
-    where
-      by : (b : Bool) (r : Record) →
-          (unless b (looked (past s (record_end s x.at)) too_long no_fields) (looked_in x (past s (record_end s x.at)) r)).next ≡
-          past s (record_end s x.at)
-      by false r = refl
-      by true (record_is.Refused n) = refl
-      by true (record_is.Fields f) = refl
+  look_next x = refl
 
   module _ (d : Dims) where
     record_falls : (x : Place) (c : Caches) → x.phase ≡ RECORD →

@@ -1,11 +1,8 @@
 -- No line is longer than most_line, and where that many bytes are free the puts of a line's parts are one put of the line.
-use mathlib.Core.Path.{◌≡◌, refl, sym, ap}
-use mathlib.Core.Bool.{Bool, true, false}
+use mathlib.Core.Path.{◌≡◌, refl, ap}
 use mathlib.Core.List.{List, [], ◌∷◌, append_assoc}
-use Prim.Native.Nat.{ℕ, ◌+◌, ◌-◌, ◌≤◌, ◌<◌}
+use Prim.Native.Nat.{ℕ, ◌+◌, ◌≤◌, ◌<◌}
 use native.Mathlib.Omega.{arith}
-use borrow.Author.Tests.{le-leb, lt-leb, leb-true, leb-false}
-use lib.Dec.{leb}
 use lib.ListN.{length, length-append}
 use Rattle.entry.specs.declared.answer.Answer.{Answer}
 use Rattle.entry.specs.declared.answer.Answer.TheVariants.{Value, Done, Success, Failure, True, False, Aborted, Refused}
@@ -74,20 +71,13 @@ unfolding end_line
 end_fits n k x h = put_all_lem (end_parts n k) x (omega (arith, (end_fair n k).1))
 
 -- the same for the parts written one after the other
-pub answer_written : (n v k : ℕ) (a : Answered) (x x1 x2 x3 x4 x5 x6 : Filled) → x.place + most_line ≤ length x.held →
-    x1 ≡ put_of (decimal n) x → x2 ≡ put_of (name_field a.answer) x1 → v ≡ printed a.answer → x3 ≡ put_of (decimal v) x2 →
+pub answer_written : (n v k : ℕ) (t : List ℕ) (a : Answered) (x x1 x2 x3 x4 x5 x6 : Filled) → x.place + most_line ≤ length x.held →
+    x1 ≡ put_of (decimal n) x → t ≡ name_field a.answer → x2 ≡ put_of t x1 → v ≡ printed a.answer → x3 ≡ put_of (decimal v) x2 →
     x4 ≡ put_of (bytes ",") x3 → k ≡ cycles_of a.counts → x5 ≡ put_of (decimal k) x4 → x6 ≡ put_of crlf x5 → x6 ≡ put_of (answer_line n a) x
-answer_written n v k a x x1 x2 x3 x4 x5 x6 h e1 e2 ev e3 e4 ek e5 e6 =
-    rw (e6, e5, ek, e4, e3, ev, e2, e1) (answer_fits n a x h)
+answer_written n v k t a x x1 x2 x3 x4 x5 x6 h e1 et e2 ev e3 e4 ek e5 e6 =
+    rw (e6, e5, ek, e4, e3, ev, e2, et, e1) (answer_fits n a x h)
 
 pub end_written : (n k : ℕ) (x x1 x2 x3 x4 x5 : Filled) → x.place + most_line ≤ length x.held →
     x1 ≡ put_of (bytes "END,COMMITTED,") x → x2 ≡ put_of (decimal n) x1 → x3 ≡ put_of (bytes ",") x2 → x4 ≡ put_of (decimal k) x3 →
     x5 ≡ put_of crlf x4 → x5 ≡ put_of (end_line n k) x
 end_written n k x x1 x2 x3 x4 x5 h e1 e2 e3 e4 e5 = rw (e5, e4, e3, e2, e1) (end_fits n k x h)
-
-pub room_test : (room used : ℕ) → used ≤ room → leb most_line (room - used) ≡ leb (used + most_line) room
-room_test room used h = by (leb most_line (room - used)) refl
-  where
-    by : (b : Bool) → leb most_line (room - used) ≡ b → b ≡ leb (used + most_line) room
-    by true e = sym (le-leb (used + most_line) room (omega (arith, leb-true most_line (room - used) e)))
-    by false e = sym (lt-leb (used + most_line) room (omega (arith, leb-false most_line (room - used) e)))

@@ -1,8 +1,8 @@
-pub mod Named
 pub mod Fitting
 pub mod Turning
 pub mod Joining
 pub mod Falling
+pub mod Counting
 pub mod Doing
 pub mod Beginning
 pub mod Whole

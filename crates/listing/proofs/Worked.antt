@@ -27,7 +27,7 @@ use Rattle.text.specs.Writing.{width_from, width_of, digits, decimal}
 use Rattle.listing.specs.Pieces.{text_from}
 use Rattle.listing.specs.Place.{more64, past, phase_at, first_phase, header_ok, begin_at}
 use Rattle.listing.specs.Lines.{crlf, answer_line, end_line}
-use Rattle.listing.specs.Records.{rises, grant_refusal, look_at, answer_of, phase_after, place_after}
+use Rattle.listing.specs.Records.{rises, grant_refusal, read_of, look_at, answer_of, phase_after, last_after, place_after}
 use Rattle.listing.specs.Listing.{do_record, do_other, do_line, listing_from}
 use Rattle.listing.specs.Replay.{begin_of, listing}
 
@@ -45,13 +45,13 @@ same (x ∷ l) (y ∷ m) = let rest = same l m in pick (eqb x y) rest false
 
 -- "The machine has 4 processors, 16 words, 4 lines, 4 entries, memory zero."
 pub lists : List String → List String → Bool
-unfolding fold_range first_from apply_from dims_refusal make_refusal fresh make_of home find_entry lowest free_slot live_entry rolled_entries
-    status_down committed_entries written_back writes snoop_line snoop_entry snoop_one snoop opposes first_opposing refuses roll_one roll_others
-    plain_request load_miss load_on load roll_own drop_normal store_through store_miss store_line store drop_line finish hit open_normal clear_backup
-    fill_backup fill request miss_at miss seek transact commit abort validate interrupt operands_refusal take_step find_of push field_of unlike_of
-    same_text is_name named_step record_end plain_of split_of record_of width_from width_of digits decimal text_from more64 past phase_at first_phase
-    header_ok begin_at answer_line end_line rises grant_refusal look_at answer_of phase_after place_after do_record do_other do_line listing_from
-    begin_of listing
+unfolding fold_range first_from apply_from dims_refusal make_refusal fresh make_of home find_entry lowest free_slot live_entry
+    rolled_entries status_down committed_entries written_back writes snoop_line snoop_entry snoop_one snoop opposes first_opposing refuses
+    roll_one roll_others plain_request load_miss load_on load roll_own drop_normal store_through store_miss store_line store drop_line
+    finish hit open_normal clear_backup fill_backup fill request miss_at miss seek transact commit abort validate interrupt
+    operands_refusal take_step find_of push field_of unlike_of same_text is_name named_step record_end plain_of split_of record_of
+    width_from width_of digits decimal text_from more64 past phase_at first_phase header_ok begin_at answer_line end_line rises
+    grant_refusal read_of look_at answer_of phase_after last_after place_after do_record do_other do_line listing_from begin_of listing
 lists input output = same (listing (dims 4 16 4 4) (joined input)) (joined output)
 
 abbrev worked : List String

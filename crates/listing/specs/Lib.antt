@@ -1,6 +1,9 @@
 pub mod Pieces
+pub mod Standing
+pub mod Phases
 pub mod Place
 pub mod Lines
+pub mod Page
 pub mod Records
 pub mod Listing
 pub mod Replay

@@ -4,11 +4,12 @@ use Rattle.std.proofs.lemmas.List.Edits.{sets}
 use Rattle.laws.specs.Choice.{pick}
 use Rattle.entry.specs.Answer.{refused_by}
 use Rattle.rules.specs.declared.Dims.{Dims}
-use Rattle.rules.specs.State.{Caches}
-use Rattle.rules.specs.Lent.{Numbers, before, after, returned}
+use Rattle.rules.specs.declared.Caches.{Caches}
 use Rattle.listing.specs.declared.pieces.Reached.{Reached}
+use Rattle.listing.specs.declared.page.Page.{Page}
 use Rattle.listing.specs.declared.places.Place.{Place}
-use Rattle.listing.specs.Place.{HEADER, REFUSAL, RECORD, END, NOTHING, with_phase, more64, first_phase}
+use Rattle.listing.specs.Phases.{HEADER, REFUSAL, RECORD, END, NOTHING}
+use Rattle.listing.specs.Place.{with_phase, more64, first_phase}
 use Rattle.listing.specs.Lines.{most_line, answer_line, end_line, header_line}
 use Rattle.listing.specs.Records.{look_at, answer_of, place_after}
 use Rattle.listing.specs.Pieces.{Filling, filling, text_from, piece_of}
@@ -51,15 +52,16 @@ going x c = record { place = x; caches = c }
 abbrev pub wrote_line : Did → ℕ → List ℕ → Filling Going
 wrote_line r used o = filling (going r.place r.after) (used + length r.line) (sets o used r.line)
 
--- what a function leaves that is lent a buffer: where the replay stands, with the caches, and the buffer
-abbrev pub fills_by : Reached → Numbers → Caches → Filling Going
-fills_by r out c = filling (going r.place c) r.used (after out)
+-- what a function leaves that is lent caches and a buffer: where the replay stands, with the caches, and the buffer
+abbrev pub fills : Reached → Caches → List ℕ → Filling Going
+fills r c o = filling (going r.place c) r.used o
 
-abbrev pub fills : Reached → (out m l e f : Numbers) → Filling Going
-fills r out m l e f = fills_by r out (returned m l e f)
+-- the same of a page, and a line written where the page is written to
+abbrev pub fills_page : Place → Caches → Page → Filling Going
+fills_page x c p = filling (going x c) p.used p.bytes.now
 
-abbrev pub wrote_in : Did → ℕ → Numbers → Filling Going
-wrote_in r used out = wrote_line r used (before out)
+abbrev pub wrote_on : Did → Page → Filling Going
+wrote_on r p = wrote_line r p.used p.bytes.now
 
 module _ (s : List ℕ) (d : Dims) where
   abbrev pub goes_on : Going → Bool

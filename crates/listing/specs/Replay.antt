@@ -2,9 +2,8 @@
 use Rattle.std.specs.Prelude.{List, ℕ, replicate}
 use Rattle.rules.specs.declared.Dims.{Dims}
 use Rattle.rules.specs.declared.Machine.{Machine}
-use Rattle.rules.specs.declared.Made.{Made}
 use Rattle.rules.specs.State.{caches_of, machine_of}
-use Rattle.rules.specs.Making.{make_of}
+use Rattle.rules.specs.Making.{Made, make_of}
 use Rattle.listing.specs.declared.Replaying.{Replaying}
 use Rattle.listing.specs.declared.Piece.{Piece}
 use Rattle.listing.specs.declared.places.Place.{Place}

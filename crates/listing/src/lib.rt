@@ -3,16 +3,16 @@
 #![tactic(auto)]
 
 mod lines;
+mod page;
 mod pieces;
 mod places;
 mod records;
 
-ghost use Rattle.std.specs.Prelude.{◌≡◌, ◌≤◌};
-ghost use Rattle.rules.specs.Making.{dims};
+ghost use Rattle.std.specs.Prelude.{◌≡◌};
 ghost use Rattle.listing.specs.Replay.{piece_left_by, begin_of, next_piece};
 
 use crate::places::Place;
-use rules::Machine;
+use rules::{Dims, Machine};
 
 // What stands between two pieces.
 #[derive(Clone, Copy)]
@@ -28,29 +28,21 @@ pub struct Piece {
     pub replaying: Replaying,
 }
 
-// No machine has more than 256 words.
-fn lent_words(words: usize) -> usize
-    ensures upper_bound { result ≤ 256 }
-    ensures value { words ≤ 256 → result ≡ words }
+// The machine has memory zero; none has more than 256 words. One that is refused is replayed too: its listing is the refusal.
+pub fn begin(s: &[u8], dims: Dims) -> Replaying
+    ensures { result ≡ begin_of s.now dims }
 {
-    if words > 256 {
-        return 256;
-    }
-    words
-}
-
-// The machine has memory zero. One that is refused is replayed too: its listing is the refusal.
-pub fn begin(s: &[u8], processors: usize, words: usize, lines: usize, entries: usize) -> Replaying
-    ensures { result ≡ begin_of s.now (dims processors words lines entries) }
-{
-    let memory = [0u32; 256];
-    let n = lent_words(words);
-    let made = machine::make(processors, words, lines, entries, &memory[..n]);
-    let m = made.machine;
-    let place = places::begin_at(s, made.refusal);
-    Replaying {
-        place: place,
-        machine: m,
+    let memory = [0; 256];
+    let n = dims.words.min(256);
+    match machine::make(dims, &memory[..n]) {
+        Ok(machine) => Replaying {
+            place: places::begin_at(s),
+            machine,
+        },
+        Err(refusal) => Replaying {
+            place: places::first_place(Some(refusal), 0),
+            machine: machine::smallest(),
+        },
     }
 }
 
@@ -58,37 +50,13 @@ pub fn begin(s: &[u8], processors: usize, words: usize, lines: usize, entries: u
 pub fn next_piece(s: &[u8], out: &mut [u8], x: Replaying) -> Piece
     ensures { piece_left_by result out.new ≡ next_piece s.now x out.old }
 {
-    let first = x.place;
-    let m = x.machine;
-    let d = m.dims;
-    let mut memory = m.memory;
-    let mut lines = m.lines;
-    let mut entries = m.entries;
-    let mut flags = m.flags;
-    let filled = pieces::fill(
-        s,
-        out,
-        &mut memory,
-        &mut lines,
-        &mut entries,
-        &mut flags,
-        d,
-        first,
-    );
-    let after = Machine {
-        dims: d,
-        memory: memory,
-        lines: lines,
-        entries: entries,
-        flags: flags,
-    };
-    let place = filled.place;
-    let replaying = Replaying {
-        place: place,
-        machine: after,
-    };
+    let mut after = x.machine;
+    let reached = pieces::fill(s, out, &mut after.caches, after.dims, x.place);
     Piece {
-        used: filled.used,
-        replaying: replaying,
+        used: reached.used,
+        replaying: Replaying {
+            place: reached.place,
+            machine: after,
+        },
     }
 }

@@ -1,29 +1,27 @@
 // The listing's lines, written where a line surely fits.
 
-ghost use Rattle.std.specs.Prelude.{◌≡◌, ◌+◌, ◌≤◌, length};
-ghost use Rattle.text.specs.Writing.{filled, put_of};
-ghost use Rattle.listing.specs.Lines.{most_line, name_field, printed, answer_line, end_line, header_line};
+ghost use Rattle.std.specs.Prelude.{◌≡◌};
+ghost use Rattle.text.specs.Writing.{put_of};
+ghost use Rattle.listing.specs.Lines.{name_field, printed, answer_line, end_line, header_line};
+ghost use Rattle.listing.specs.Page.{held, HasRoom, SameBuffer};
 
+use crate::page::Page;
 use entry::answer::{Answer, Answered};
-use text::writing::{put_bytes, put_number};
 
-// No line is longer.
-pub(crate) const LINE_MOST: usize = 72;
-
-// The answers' names, each with its two commas, in the order of their numbers. Name k is what stands from the k-th start up to the next.
-const NAMES: [u8; 62] = *b",VALUE,,DONE,,SUCCESS,,FAILURE,,TRUE,,FALSE,,ABORTED,,REFUSED,";
-
-const STARTS: [u8; 9] = [0, 7, 13, 22, 31, 37, 44, 53, 62];
-
-fn put_name(out: &mut [u8], at: usize, answer: Answer) -> usize
-    ensures { filled result out.new ≡ put_of (name_field answer) (filled at out.old) }
+// An answer's name, between the two commas that stand around it.
+fn name_field(answer: Answer) -> &'static [u8]
+    ensures { result.now ≡ name_field answer }
 {
-    let names = NAMES;
-    let starts = STARTS;
-    let k = answer.number() as usize;
-    let a = starts[k] as usize;
-    let e = starts[k + 1] as usize;
-    put_bytes(out, at, &names[a..e])
+    match answer {
+        Answer::Value(_) => b",VALUE,",
+        Answer::Done => b",DONE,",
+        Answer::Success => b",SUCCESS,",
+        Answer::Failure => b",FAILURE,",
+        Answer::True => b",TRUE,",
+        Answer::False => b",FALSE,",
+        Answer::Aborted => b",ABORTED,",
+        Answer::Refused(_) => b",REFUSED,",
+    }
 }
 
 // A refusal shows its number, every other answer its value.
@@ -31,44 +29,40 @@ fn printed(answer: Answer) -> u64
     ensures { result ≡ printed answer }
 {
     match answer {
-        Answer::Value(v) => v as u64,
-        Answer::Done => 0,
-        Answer::Success => 0,
-        Answer::Failure => 0,
-        Answer::True => 0,
-        Answer::False => 0,
-        Answer::Aborted => 0,
-        Answer::Refused(n) => n as u64,
+        Answer::Value(value) => value.into(),
+        Answer::Refused(number) => number.into(),
+        _ => 0,
     }
 }
 
-pub(crate) fn write_answer(out: &mut [u8], at: usize, number: u64, told: Answered) -> usize
-    requires { at + most_line ≤ length out.old }
-    ensures { filled result out.new ≡ put_of (answer_line number told) (filled at out.old) }
+pub(crate) fn write_answer(page: &mut Page<'_>, number: u64, told: Answered)
+    requires { HasRoom page.old }
+    ensures same_buffer { SameBuffer page.new page.old }
+    ensures value { held page.new ≡ put_of (answer_line number told) (held page.old) }
 {
-    let answer = told.answer;
-    let counts = told.counts;
-    let a = put_number(out, at, number);
-    let b = put_name(out, a, answer);
-    let c = put_number(out, b, printed(answer));
-    let d = put_bytes(out, c, b",");
-    let e = put_number(out, d, counts.cycles());
-    put_bytes(out, e, b"\r\n")
+    page.put_number(number);
+    page.put_bytes(name_field(told.answer));
+    page.put_number(printed(told.answer));
+    page.put_bytes(b",");
+    page.put_number(told.counts.cycles());
+    page.put_bytes(b"\r\n");
 }
 
-pub(crate) fn write_end(out: &mut [u8], at: usize, commits: u64, cycles: u64) -> usize
-    requires { at + most_line ≤ length out.old }
-    ensures { filled result out.new ≡ put_of (end_line commits cycles) (filled at out.old) }
+pub(crate) fn write_end(page: &mut Page<'_>, commits: u64, cycles: u64)
+    requires { HasRoom page.old }
+    ensures same_buffer { SameBuffer page.new page.old }
+    ensures value { held page.new ≡ put_of (end_line commits cycles) (held page.old) }
 {
-    let a = put_bytes(out, at, b"END,COMMITTED,");
-    let b = put_number(out, a, commits);
-    let c = put_bytes(out, b, b",");
-    let d = put_number(out, c, cycles);
-    put_bytes(out, d, b"\r\n")
+    page.put_bytes(b"END,COMMITTED,");
+    page.put_number(commits);
+    page.put_bytes(b",");
+    page.put_number(cycles);
+    page.put_bytes(b"\r\n");
 }
 
-pub(crate) fn write_header(out: &mut [u8], at: usize) -> usize
-    ensures { filled result out.new ≡ put_of header_line (filled at out.old) }
+pub(crate) fn write_header(page: &mut Page<'_>)
+    ensures same_buffer { SameBuffer page.new page.old }
+    ensures value { held page.new ≡ put_of header_line (held page.old) }
 {
-    put_bytes(out, at, b"record,answer,value,bus\r\n")
+    page.put_bytes(b"record,answer,value,bus\r\n");
 }

@@ -1,46 +1,71 @@
 // Where a replay stands between two lines of its listing.
 
-ghost use Rattle.std.specs.Prelude.{◌≡◌};
-ghost use Rattle.listing.specs.Place.{first_place, with_phase, more64, past, phase_at, first_phase, begin_at};
+ghost use Rattle.std.specs.Prelude.{◌≡◌, ltb};
+ghost use Rattle.entry.specs.Refusals.{accepted};
+ghost use Rattle.listing.specs.Place.{first_place, with_phase, past, phase_at, first_phase, begin_at, begun_by};
+ghost use Rattle.listing.specs.Phases.{NOTHING, phase_number, number_or};
 
-use entry::refusals::{ACCEPTED, WRONG_HEADER};
+use entry::refusals::Refusal;
+use std::marker::Model;
 use text::names::text_is;
 use text::records::record_end;
 
 // What the next line is, or that none is left.
-pub(crate) const HEADER: u8 = 0;
+#[derive(Clone, Copy, PartialEq, Eq)]
+pub enum Phase {
+    Header,
+    Refusal,
+    Record,
+    End,
+    Nothing,
+}
 
-pub(crate) const REFUSAL: u8 = 1;
-
-pub(crate) const RECORD: u8 = 2;
-
-pub(crate) const END: u8 = 3;
-
-pub(crate) const NOTHING: u8 = 4;
-
-// refusal is the machine's or the header's; at is where the next record begins, number the last record's; taken says whether a record
-// was, and grant is the last such record's.
+// refused is the machine's refusal or the header's; at is where the next record begins, number the last record's; last is the grant of the
+// last record that was taken.
 #[derive(Clone, Copy)]
 pub struct Place {
-    pub phase: u8,
-    pub refusal: u8,
+    pub phase: Phase,
+    pub refused: Option<Refusal>,
     pub at: usize,
     pub number: u64,
-    pub taken: bool,
-    pub grant: u32,
+    pub last: Option<u32>,
     pub commits: u64,
     pub cycles: u64,
 }
 
-// Counts stand still at the largest number.
-#[tactic(auto, unfolding(crate::specs::Place::more64))]
-pub(crate) fn more(n: u64, k: u64) -> u64
-    ensures { result ≡ more64 n k }
-{
-    if k <= u64::MAX - n {
-        return n + k;
+impl Model for Place {
+    ghost use Rattle.listing.specs.Standing.{Standing};
+
+    ghost Value = { Standing };
+
+    ghost use Rattle.listing.specs.Phases.{fields_of, inside_of, inside_back};
+
+    ghost view = { fields_of };
+
+    ghost inverse = { inside_of };
+
+    ghost inverse_ok = { λ a h. inside_back a };
+}
+
+impl Place {
+    pub(crate) fn with_phase(self, phase: Phase) -> Place
+        ensures { result ≡ with_phase self (phase_number phase) }
+    {
+        Place { phase, ..self }
     }
-    u64::MAX
+
+    pub(crate) fn goes_on(self) -> bool
+        ensures { result ≡ ltb self.phase NOTHING }
+    {
+        self.phase != Phase::Nothing
+    }
+
+    // The refusal's number, 0 where there is none.
+    pub(crate) fn refusal(self) -> u8
+        ensures { result ≡ self.refusal }
+    {
+        self.refused.map_or(0, u8::from)
+    }
 }
 
 // Past a record's CRLF, if it has one.
@@ -55,66 +80,58 @@ pub(crate) fn past(s: &[u8], end: usize) -> usize
 }
 
 #[tactic(auto, unfolding(crate::specs::Place::phase_at))]
-pub(crate) fn phase_at(s: &[u8], at: usize) -> u8
-    ensures { result ≡ phase_at s.now at }
+pub(crate) fn phase_at(s: &[u8], at: usize) -> Phase
+    ensures { phase_number result ≡ phase_at s.now at }
 {
     if at < s.len() {
-        return RECORD;
+        return Phase::Record;
     }
-    END
+    Phase::End
 }
 
 // What comes after the listing's own header.
 #[tactic(auto, unfolding(crate::specs::Place::first_phase))]
-pub(crate) fn first_phase(s: &[u8], x: Place) -> u8
-    ensures { result ≡ first_phase s.now x }
+pub(crate) fn first_phase(s: &[u8], x: Place) -> Phase
+    ensures { phase_number result ≡ first_phase s.now x }
 {
-    if x.refusal != ACCEPTED {
-        return REFUSAL;
+    if x.refused.is_some() {
+        return Phase::Refusal;
     }
     phase_at(s, x.at)
 }
 
-pub(crate) fn with_phase(x: Place, phase: u8) -> Place
-    ensures { result ≡ with_phase x phase }
+pub(crate) fn first_place(refused: Option<Refusal>, at: usize) -> Place
+    ensures { result ≡ first_place (number_or refused) at }
 {
     Place {
-        phase: phase,
-        refusal: x.refusal,
-        at: x.at,
-        number: x.number,
-        taken: x.taken,
-        grant: x.grant,
-        commits: x.commits,
-        cycles: x.cycles,
-    }
-}
-
-fn first_place(refusal: u8, at: usize) -> Place
-    ensures { result ≡ first_place refusal at }
-{
-    Place {
-        phase: HEADER,
-        refusal: refusal,
-        at: at,
+        phase: Phase::Header,
+        refused,
+        at,
         number: 0,
-        taken: false,
-        grant: 0,
+        last: None,
         commits: 0,
         cycles: 0,
     }
 }
 
+// Where the first record begins.
 #[tactic(auto, unfolding(crate::specs::Place::begin_at, crate::specs::Place::header_ok))]
-pub(crate) fn begin_at(s: &[u8], made: u8) -> Place
-    ensures { result ≡ begin_at s.now made }
+fn header_end(s: &[u8]) -> Result<usize, Refusal>
+    ensures { begun_by result ≡ begin_at s.now accepted }
 {
-    if made != ACCEPTED {
-        return first_place(made, 0);
-    }
     let end = record_end(s, 0);
     if !text_is(s, 0, end, b"grant,core,op,word,value") {
-        return first_place(WRONG_HEADER, 0);
+        return Err(Refusal::WrongHeader);
     }
-    first_place(ACCEPTED, past(s, end))
+    Ok(past(s, end))
+}
+
+// On a machine that was made.
+pub(crate) fn begin_at(s: &[u8]) -> Place
+    ensures { result ≡ begin_at s.now accepted }
+{
+    match header_end(s) {
+        Ok(at) => first_place(None, at),
+        Err(refusal) => first_place(Some(refusal), 0),
+    }
 }

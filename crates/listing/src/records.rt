@@ -1,160 +1,121 @@
 // One record: looked at, answered by the machine, and left behind.
 
 ghost use Rattle.std.specs.Prelude.{◌≡◌};
+ghost use Rattle.entry.specs.Refusals.{refused_as};
 ghost use Rattle.rules.specs.State.{outcome};
-ghost use Rattle.listing.specs.Records.{rises, grant_refusal, looked, look_at, answer_of, is_success, phase_after, place_after, no_fields};
-ghost use Rattle.rules.specs.Lent.{lent, returned};
+ghost use Rattle.text.specs.Records.{numbered};
+ghost use Rattle.listing.specs.Phases.{phase_number};
+ghost use Rattle.listing.specs.Records.{rises, grant_refusal, read_of, looked_by, look_at, answer_of};
+ghost use Rattle.listing.specs.Records.{is_success, phase_after, last_after, place_after};
 
-use crate::places::{END, Place, more, past, phase_at};
+use crate::places::{Phase, Place, past, phase_at};
 use entry::answer::{Answer, Answered};
-use entry::refusals::{ACCEPTED, NOT_RISING, TOO_LONG};
-use entry::step::Step;
-use rules::{Copies, Dims, Flags, Memory};
-use text::records::{Parsed, Record, read_record, record_end};
+use entry::refusals::Refusal;
+use rules::{Caches, Dims};
+use text::records::{Parsed, read_record, record_end};
 
 // The record that holds the byte after these is too long.
 const BYTES_MOST: usize = 4194304;
 
-// Where the next record begins, the refusal or 0, and the fields.
+// Where the next record begins, and the fields of this one.
 #[derive(Clone, Copy)]
 pub struct Looked {
     pub next: usize,
-    pub refusal: u8,
-    pub fields: Parsed,
+    pub fields: Result<Parsed, Refusal>,
 }
 
 #[tactic(auto, unfolding(crate::specs::Records::rises))]
 fn rises(x: Place, grant: u32) -> bool
     ensures { result ≡ rises x grant }
 {
-    if x.taken {
-        return x.grant < grant;
-    }
-    true
+    x.last.is_none_or(|last| last < grant)
 }
 
 #[tactic(auto, unfolding(crate::specs::Records::grant_refusal))]
-fn grant_refusal(x: Place, grant: u32) -> u8
-    ensures { result ≡ grant_refusal x grant }
+fn test_grant(x: Place, grant: u32) -> Result<(), Refusal>
+    ensures { refused_as result ≡ grant_refusal x grant }
 {
     if !rises(x, grant) {
-        return NOT_RISING;
+        return Err(Refusal::NotRising);
     }
-    ACCEPTED
+    Ok(())
 }
 
-fn unread(next: usize, refusal: u8) -> Looked
-    ensures { result ≡ looked next refusal no_fields }
+// The record at a place, which ends at `end`.
+#[tactic(auto, unfolding(crate::specs::Records::read_of))]
+fn read(s: &[u8], x: Place, end: usize) -> Result<Parsed, Refusal>
+    ensures { numbered result ≡ read_of s.now x end }
 {
-    let nothing = Step {
-        op: 0,
-        core: 0,
-        word: 0,
-        value: 0,
-    };
-    let none = Parsed {
-        grant: 0,
-        step: nothing,
-    };
-    Looked {
-        next: next,
-        refusal: refusal,
-        fields: none,
+    if past(s, end) > BYTES_MOST {
+        return Err(Refusal::TooLong);
     }
+    let fields = read_record(s, x.at, end)?;
+    test_grant(x, fields.grant)?;
+    Ok(fields)
 }
 
 #[tactic(auto, unfolding(crate::specs::Records::look_at))]
 pub(crate) fn look_at(s: &[u8], x: Place) -> Looked
-    ensures { result ≡ look_at s.now x }
+    ensures { looked_by result ≡ look_at s.now x }
 {
-    let at = x.at;
-    let end = record_end(s, at);
-    let next = past(s, end);
-    if next > BYTES_MOST {
-        return unread(next, TOO_LONG);
-    }
-    match read_record(s, at, end) {
-        Record::Refused(n) => unread(next, n),
-        Record::Fields(f) => {
-            let k = grant_refusal(x, f.grant);
-            Looked {
-                next: next,
-                refusal: k,
-                fields: f,
-            }
-        }
+    let end = record_end(s, x.at);
+    Looked {
+        next: past(s, end),
+        fields: read(s, x, end),
     }
 }
 
 // A refused record changes nothing.
 #[tactic(auto, unfolding(crate::specs::Records::answer_of))]
-pub(crate) fn answer_of(
-    memory: &mut Memory,
-    lines: &mut Copies,
-    entries: &mut Copies,
-    flags: &mut Flags,
-    d: Dims,
-    l: Looked,
-) -> Answered
-    ensures { outcome result (returned memory lines entries flags) ≡ answer_of d l (lent memory lines entries flags) }
+pub(crate) fn answer_of(c: &mut Caches, d: Dims, l: Looked) -> Answered
+    ensures { outcome result c.new ≡ answer_of d (looked_by l) c.old }
 {
-    if l.refusal != ACCEPTED {
-        return Answered::refused(l.refusal);
+    match l.fields {
+        Ok(fields) => steps::take_step(c, d, fields.step),
+        Err(refusal) => refusal.into(),
     }
-    let f = l.fields;
-    steps::take_step(memory, lines, entries, flags, d, f.step)
 }
 
 fn successes(answer: Answer) -> u64
     ensures { result ≡ is_success answer }
 {
-    match answer {
-        Answer::Value(_) => 0,
-        Answer::Done => 0,
-        Answer::Success => 1,
-        Answer::Failure => 0,
-        Answer::True => 0,
-        Answer::False => 0,
-        Answer::Aborted => 0,
-        Answer::Refused(_) => 0,
-    }
+    matches!(answer, Answer::Success).into()
 }
 
 #[tactic(auto, unfolding(crate::specs::Records::phase_after))]
-fn phase_after(s: &[u8], l: Looked) -> u8
-    ensures { result ≡ phase_after s.now l }
+fn phase_after(s: &[u8], l: Looked) -> Phase
+    ensures { phase_number result ≡ phase_after s.now (looked_by l) }
 {
-    if l.refusal == TOO_LONG {
-        return END;
+    if let Err(Refusal::TooLong) = l.fields {
+        return Phase::End;
     }
     phase_at(s, l.next)
 }
 
+// Counts stand still at the largest number.
 #[tactic(auto, unfolding(crate::specs::Records::place_after))]
 pub(crate) fn place_after(s: &[u8], x: Place, l: Looked, told: Answered) -> Place
-    ensures { result ≡ place_after s.now x l told }
+    ensures { result ≡ place_after s.now x (looked_by l) told }
 {
-    let answer = told.answer;
-    let counts = told.counts;
-    let phase = phase_after(s, l);
-    let number = more(x.number, 1);
-    let commits = more(x.commits, successes(answer));
-    let cycles = more(x.cycles, counts.cycles());
-    let mut taken = x.taken;
-    let mut grant = x.grant;
-    if answer.refusal() == ACCEPTED {
-        let f = l.fields;
-        taken = true;
-        grant = f.grant;
-    }
     Place {
-        phase: phase,
-        refusal: x.refusal,
+        phase: phase_after(s, l),
         at: l.next,
-        number: number,
-        taken: taken,
-        grant: grant,
-        commits: commits,
-        cycles: cycles,
+        number: x.number.saturating_add(1),
+        last: last_after(x, l, told.answer),
+        commits: x.commits.saturating_add(successes(told.answer)),
+        cycles: x.cycles.saturating_add(told.counts.cycles()),
+        ..x
+    }
+}
+
+// The grant of the last record that was taken: of this one, unless its answer is a refusal. The definition reads that from the refusal's
+// number, which is 0 where there is none.
+#[tactic(auto, unfolding(crate::specs::Records::last_after))]
+fn last_after(x: Place, l: Looked, answer: Answer) -> Option<u32>
+    ensures { result ≡ last_after x (looked_by l) answer }
+{
+    match l.fields {
+        Ok(fields) if answer.refusal() == 0 => Some(fields.grant),
+        _ => x.last,
     }
 }

@@ -1,4 +1,4 @@
 pub mod Answering
-pub mod Padding
 pub mod Fits
+mod Values
 pub mod Unique

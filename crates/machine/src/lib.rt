@@ -7,122 +7,83 @@ mod settling;
 
 ghost use Rattle.std.specs.Prelude.{◌≡◌};
 ghost use Rattle.rules.specs.State.{caches_of};
-ghost use Rattle.rules.specs.Making.{dims, make_of};
+ghost use Rattle.rules.specs.Making.{smallest, make_of, made_by};
 ghost use Rattle.rules.specs.SoundTest.{sound_of};
-ghost use Rattle.rules.specs.Step.{step_of, settled_of, settle_of};
+ghost use Rattle.rules.specs.Step.{step_of, settled_of, settle_of, settled_by};
 
 use entry::answer::{Answer, Answered};
-use entry::refusals::{ACCEPTED, NO_SUCH_WORD, NOT_SOUND};
+use entry::refusals::Refusal;
 use entry::step::Step;
-use rules::{Dims, Machine, Made, Settle, Stepped, narrowed};
+use rules::{Dims, Machine, Memory, Stepped, narrowed};
 
-// A refused making hands back the smallest machine.
-pub fn make(processors: usize, words: usize, lines: usize, entries: usize, memory: &[u32]) -> Made
-    ensures { result ≡ make_of (dims processors words lines entries) memory.now }
+#[tactic(auto, unfolding(rules::specs::Making::make_of))]
+pub fn make(dims: Dims, memory: &[u32]) -> Result<Machine, Refusal>
+    ensures { made_by result ≡ make_of dims memory.now }
 {
-    let d = Dims {
-        processors: processors,
-        words: words,
-        lines: lines,
-        entries: entries,
+    making::test(dims, memory)?;
+    Ok(Machine {
+        dims,
+        caches: making::fresh(dims, memory),
+    })
+}
+
+// The smallest machine, with memory zero: what a caller has in place of one that was refused.
+pub fn smallest() -> Machine
+    ensures { result ≡ smallest }
+{
+    let dims = Dims {
+        processors: 1,
+        words: 1,
+        lines: 1,
+        entries: 1,
     };
-    let k = making::make_refusal(d, memory);
-    if k != ACCEPTED {
-        let m = making::smallest_machine();
-        return Made {
-            refusal: k,
-            machine: m,
-        };
-    }
-    let m = making::fresh_machine(d, memory);
-    Made {
-        refusal: ACCEPTED,
-        machine: m,
+    Machine {
+        dims,
+        caches: making::fresh(dims, &[0]),
     }
 }
 
 pub fn sound(m: Machine) -> bool
     ensures { result ≡ sound_of m.dims (caches_of m) }
 {
-    let memory = m.memory;
-    let lines = m.lines;
-    let entries = m.entries;
-    let flags = m.flags;
-    sound::sound(&memory, &lines, &entries, &flags, m.dims)
+    sound::sound(&m.caches, m.dims)
 }
 
+#[tactic(auto, unfolding(rules::specs::Step::settled_of))]
 pub fn settled(m: Machine, word: u32) -> Answer
     ensures { result ≡ settled_of m word }
 {
     if !sound(m) {
-        return Answer::Refused(NOT_SOUND);
+        return Answer::Refused(Refusal::NotSound.into());
     }
-    let d = m.dims;
-    let a = word as usize;
-    if a >= d.words {
-        return Answer::Refused(NO_SUCH_WORD);
+    if word as usize >= m.dims.words {
+        return Answer::Refused(Refusal::NoSuchWord.into());
     }
-    let memory = m.memory;
-    let lines = m.lines;
-    let entries = m.entries;
-    let flags = m.flags;
-    let v = settling::settled_in(&memory, &lines, &entries, &flags, d, narrowed(word));
-    Answer::Value(v)
+    Answer::Value(settling::settled_in(&m.caches, m.dims, narrowed(word)))
 }
 
 // Every word's settled value in one call.
-pub fn settle(m: Machine) -> Settle
-    ensures { result ≡ settle_of m }
+#[tactic(auto, unfolding(rules::specs::Step::settle_of))]
+pub fn settle(m: Machine) -> Result<Memory, Refusal>
+    ensures { settled_by result ≡ settle_of m }
 {
     if !sound(m) {
-        return Settle {
-            refusal: NOT_SOUND,
-            values: [0u32; 256],
-        };
+        return Err(Refusal::NotSound);
     }
-    let memory = m.memory;
-    let lines = m.lines;
-    let entries = m.entries;
-    let flags = m.flags;
-    let values = settling::settled_all(&memory, &lines, &entries, &flags, m.dims);
-    Settle {
-        refusal: ACCEPTED,
-        values: values,
-    }
+    Ok(settling::settled_all(&m.caches, m.dims))
 }
 
 // A refused step hands the machine back as it was.
-pub fn step(m: Machine, step: Step) -> Stepped
+#[tactic(auto, unfolding(rules::specs::Step::step_of))]
+pub fn step(mut m: Machine, step: Step) -> Stepped
     ensures { result ≡ step_of m step }
 {
     if !sound(m) {
-        let told = Answered::refused(NOT_SOUND);
         return Stepped {
-            told: told,
+            told: Refusal::NotSound.into(),
             machine: m,
         };
     }
-    let d = m.dims;
-    let mut memory = m.memory;
-    let mut lines = m.lines;
-    let mut entries = m.entries;
-    let mut flags = m.flags;
-    let told = steps::take_step(&mut memory, &mut lines, &mut entries, &mut flags, d, step);
-    let answer = told.answer;
-    let counts = told.counts;
-    let answered = Answered {
-        answer: answer,
-        counts: counts,
-    };
-    let stepped = Machine {
-        dims: d,
-        memory: memory,
-        lines: lines,
-        entries: entries,
-        flags: flags,
-    };
-    Stepped {
-        told: answered,
-        machine: stepped,
-    }
+    let told = steps::take_step(&mut m.caches, m.dims, step);
+    Stepped { told, machine: m }
 }

@@ -2,12 +2,12 @@
 -- reading, `Post`. Assumes nothing.
 use Rattle.laws.specs.OneAnswer.{OneAnswer}
 use mathlib.Core.Path.{◌∙◌, sym}
-use Rattle.rules.specs.State.{caches, outcome}
+use Rattle.rules.specs.State.{outcome}
 use Rattle.plain.proofs.load.Reads as load-reads
 use Rattle.plain.proofs.store.Reads as store-reads
 
-pub load_unique : OneAnswer load-reads.Post (λ κs r s. outcome r (caches s.0.now s.1.0.now s.1.1.0.now s.1.1.1.0.now))
+pub load_unique : OneAnswer load-reads.Post (λ κs r s. outcome r s.0.now)
 load_unique κs a r r' s s' p q = p ∙ sym q
 
-pub store_unique : OneAnswer store-reads.Post (λ κs r s. outcome r (caches s.0.now s.1.0.now s.1.1.0.now s.1.1.1.0.now))
+pub store_unique : OneAnswer store-reads.Post (λ κs r s. outcome r s.0.now)
 store_unique κs a r r' s s' p q = p ∙ sym q

@@ -1,258 +1,167 @@
-// LOAD and STORE on the lent arrays.
+// LOAD and STORE.
 
 #![tactic(auto)]
 
-ghost use Rattle.std.specs.Prelude.{◌≡◌, List, ℕ};
-ghost use Rattle.entry.specs.declared.answer.Answer.TheVariants.{Value};
-ghost use Rattle.entry.specs.Numbers.{NORMAL};
-ghost use Rattle.entry.specs.Answer.{answered, no_cycles};
-ghost use Rattle.rules.specs.State.{caches, outcome, counted};
+ghost use Rattle.std.specs.Prelude.{◌≡◌};
+ghost use Rattle.entry.specs.Numbers.{INVALID, NORMAL};
+ghost use Rattle.entry.specs.Packing.{entry};
+ghost use Rattle.entry.specs.Kinds.{state_number};
+ghost use Rattle.rules.specs.State.{outcome, counted};
 ghost use Rattle.rules.specs.Own.{find_entry};
 ghost use Rattle.rules.specs.Load.{load_miss, load_on, load};
 ghost use Rattle.rules.specs.Store.{roll_own, drop_normal, store_through, store_miss, store_line, store};
-ghost use Rattle.rules.specs.Lent.{lent, returned};
+ghost use Rattle.caches.specs.Own.{below};
 
+use caches::Own;
 use entry::Entry;
 use entry::answer::{Answer, Answered, Counts};
-use entry::numbers::{DIRTY, INVALID, READ, RESERVED, RFO, VALID, WRITE};
-use rules::{Copies, Dims, Flags, Memory, place};
+use entry::numbers::{Cycle, State};
+use rules::{Caches, Dims};
 
-// VALUE with no cycles.
-fn hit(v: u32) -> Answered
-    ensures { result ≡ answered (Value v) no_cycles }
+#[tactic(auto, unfolding(rules::specs::Load::load_miss))]
+fn load_miss(c: &mut Caches, d: Dims, p: usize, word: u8) -> Answered
+    ensures { outcome result c.new ≡ load_miss d p word c.old }
 {
+    let home = caches::home(d, word);
+    let writes = caches::clear_line(c, p, home);
+    snoop::plain_request(c, d, p, word, Cycle::Read);
+    let value = c.word_at(word);
+    c.put_line(p, home, Entry::regular(State::Valid, word, value));
     Answered {
-        answer: Answer::Value(v),
-        counts: Counts::quiet(0),
+        answer: Answer::Value(value),
+        counts: Counts::asked(Cycle::Read, writes.into(), 0),
     }
 }
 
-fn load_miss(
-    memory: &mut Memory,
-    lines: &mut Copies,
-    entries: &mut Copies,
-    flags: &mut Flags,
-    d: Dims,
-    p: usize,
-    word: u8,
-) -> Answered
-    ensures { outcome result (returned memory lines entries flags) ≡ load_miss d p word (lent memory lines entries flags) }
+// The NORMAL entry is looked for already.
+#[tactic(auto, unfolding(rules::specs::Load::load_on))]
+fn load_on(c: &mut Caches, d: Dims, p: usize, word: u8, normal: Option<usize>) -> Answered
+    requires { normal ≡ below d.entries (find_entry c.old.entries p d.entries NORMAL word) }
+    ensures { outcome result c.new ≡ load_on d p word c.old }
 {
-    let i = caches::home(d, word);
-    let w = caches::clear(memory, lines, p, i);
-    snoop::plain_request(memory, lines, entries, flags, d, p, word, READ);
-    let a = word as usize;
-    let v = memory[a];
-    let e = Entry {
-        state: VALID,
-        tag: INVALID,
-        word: word,
-        data: v,
-    };
-    let j = place(p, i);
-    lines[j] = e.pack();
-    Answered {
-        answer: Answer::Value(v),
-        counts: Counts::asked(READ, w as u16, 0),
+    match normal {
+        Some(i) => Answered::quiet(Answer::Value(c.entry_at(p, i).data)),
+        None => load_miss(c, d, p, word),
     }
 }
 
-// The NORMAL entry is looked for already: it is i.
-fn load_on(
-    memory: &mut Memory,
-    lines: &mut Copies,
-    entries: &mut Copies,
-    flags: &mut Flags,
-    d: Dims,
-    p: usize,
-    word: u8,
-    i: usize,
-) -> Answered
-    requires { i ≡ find_entry entries.old p d.entries NORMAL word }
-    ensures { outcome result (returned memory lines entries flags) ≡ load_on d p word (lent memory lines entries flags) }
+#[tactic(auto, unfolding(rules::specs::Load::load, caches::specs::Own::own_entry))]
+pub fn load(c: &mut Caches, d: Dims, p: usize, word: u8) -> Answered
+    ensures { outcome result c.new ≡ load d p word c.old }
 {
-    if i < d.entries {
-        let j = place(p, i);
-        let e = Entry::unpack(entries[j]);
-        return hit(e.data);
-    }
-    load_miss(memory, lines, entries, flags, d, p, word)
-}
-
-pub fn load(
-    memory: &mut Memory,
-    lines: &mut Copies,
-    entries: &mut Copies,
-    flags: &mut Flags,
-    d: Dims,
-    p: usize,
-    word: u8,
-) -> Answered
-    ensures { outcome result (returned memory lines entries flags) ≡ load d p word (lent memory lines entries flags) }
-{
-    let h = caches::home(d, word);
-    let j = place(p, h);
-    let line = Entry::unpack(lines[j]);
+    let line = c.line_at(p, caches::home(d, word));
     if caches::holds(line, word) {
-        return hit(line.data);
+        return Answered::quiet(Answer::Value(line.data));
     }
-    let own = caches::own_entry(entries, p, d.entries, word);
-    let i = own.at;
-    if !own.tentative {
-        return load_on(memory, lines, entries, flags, d, p, word, i);
+    match caches::own_entry(c, d, p, word) {
+        Own::Tentative(i) => {
+            let tentative = c.entry_at(p, i);
+            if tentative.state == State::Valid {
+                return Answered::quiet(Answer::Value(tentative.data));
+            }
+            caches::rollback(c, d, p);
+            let normal = caches::find_normal(c, d, p, word);
+            load_on(c, d, p, word, normal)
+        }
+        Own::Normal(i) => load_on(c, d, p, word, Some(i)),
+        Own::Nowhere => load_on(c, d, p, word, None),
     }
-    let k = place(p, i);
-    let tentative = Entry::unpack(entries[k]);
-    if tentative.state == VALID {
-        return hit(tentative.data);
-    }
-    caches::rollback(entries, flags, p, d.entries);
-    let normal = caches::find_normal(entries, p, d.entries, word);
-    load_on(memory, lines, entries, flags, d, p, word, normal)
 }
 
 // Answers where the NORMAL entry then stands.
-fn roll_own(entries: &mut Copies, flags: &mut Flags, d: Dims, p: usize, word: u8) -> usize
-    ensures by_index { (m l : List ℕ) →
-        caches m l entries.new flags.new ≡ roll_own d p word (caches m l entries.old flags.old) }
-    ensures value { result ≡ find_entry entries.new p d.entries NORMAL word }
+#[tactic(auto, unfolding(rules::specs::Store::roll_own, caches::specs::Own::own_entry))]
+fn roll_own(c: &mut Caches, d: Dims, p: usize, word: u8) -> Option<usize>
+    ensures rolled { c.new ≡ roll_own d p word c.old }
+    ensures value { result ≡ below d.entries (find_entry c.new.entries p d.entries NORMAL word) }
 {
-    let own = caches::own_entry(entries, p, d.entries, word);
-    if own.tentative {
-        caches::rollback(entries, flags, p, d.entries);
-        return caches::find_normal(entries, p, d.entries, word);
-    }
-    own.at
-}
-
-fn drop_normal(
-    memory: &mut Memory,
-    entries: &mut Copies,
-    d: Dims,
-    p: usize,
-    word: u8,
-    i: usize,
-) -> u8
-    requires { i ≡ find_entry entries.old p d.entries NORMAL word }
-    ensures { (l f : List ℕ) → counted result (caches memory.new l entries.new f) ≡
-        drop_normal d p word (caches memory.old l entries.old f) }
-{
-    if i < d.entries {
-        return caches::clear(memory, entries, p, i);
-    }
-    0
-}
-
-fn store_through(
-    memory: &mut Memory,
-    lines: &mut Copies,
-    entries: &mut Copies,
-    flags: &mut Flags,
-    d: Dims,
-    p: usize,
-    word: u8,
-    v: u32,
-    w: u8,
-) -> Answered
-    ensures { outcome result (returned memory lines entries flags) ≡ store_through d p word v w (lent memory lines entries flags) }
-{
-    snoop::plain_request(memory, lines, entries, flags, d, p, word, WRITE);
-    let a = word as usize;
-    memory[a] = v;
-    let e = Entry {
-        state: RESERVED,
-        tag: INVALID,
-        word: word,
-        data: v,
-    };
-    let i = caches::home(d, word);
-    let j = place(p, i);
-    lines[j] = e.pack();
-    Answered {
-        answer: Answer::Done,
-        counts: Counts::asked(WRITE, w as u16, 0),
-    }
-}
-
-fn store_miss(
-    memory: &mut Memory,
-    lines: &mut Copies,
-    entries: &mut Copies,
-    flags: &mut Flags,
-    d: Dims,
-    p: usize,
-    word: u8,
-    v: u32,
-    w: u8,
-) -> Answered
-    ensures { outcome result (returned memory lines entries flags) ≡ store_miss d p word v w (lent memory lines entries flags) }
-{
-    let i = caches::home(d, word);
-    let w2 = caches::clear(memory, lines, p, i);
-    snoop::plain_request(memory, lines, entries, flags, d, p, word, RFO);
-    let e = Entry {
-        state: DIRTY,
-        tag: INVALID,
-        word: word,
-        data: v,
-    };
-    let j = place(p, i);
-    lines[j] = e.pack();
-    let all = (w as u16) + (w2 as u16);
-    Answered {
-        answer: Answer::Done,
-        counts: Counts::asked(RFO, all, 0),
-    }
-}
-
-fn store_line(
-    memory: &mut Memory,
-    lines: &mut Copies,
-    entries: &mut Copies,
-    flags: &mut Flags,
-    d: Dims,
-    p: usize,
-    word: u8,
-    v: u32,
-    w: u8,
-) -> Answered
-    ensures { outcome result (returned memory lines entries flags) ≡ store_line d p word v (counted w (lent memory lines entries flags)) }
-{
-    let i = caches::home(d, word);
-    let j = place(p, i);
-    let line = Entry::unpack(lines[j]);
-    if caches::holds(line, word) {
-        if line.state == VALID {
-            return store_through(memory, lines, entries, flags, d, p, word, v, w);
+    match caches::own_entry(c, d, p, word) {
+        Own::Tentative(_) => {
+            caches::rollback(c, d, p);
+            caches::find_normal(c, d, p, word)
         }
-        let e = Entry {
-            state: DIRTY,
-            tag: INVALID,
-            word: word,
-            data: v,
-        };
-        lines[j] = e.pack();
-        return Answered {
-            answer: Answer::Done,
-            counts: Counts::quiet(w as u16),
-        };
+        Own::Normal(i) => Some(i),
+        Own::Nowhere => None,
     }
-    store_miss(memory, lines, entries, flags, d, p, word, v, w)
 }
 
-pub fn store(
-    memory: &mut Memory,
-    lines: &mut Copies,
-    entries: &mut Copies,
-    flags: &mut Flags,
-    d: Dims,
+#[tactic(auto, unfolding(rules::specs::Store::drop_normal))]
+fn drop_normal(c: &mut Caches, d: Dims, p: usize, word: u8, normal: Option<usize>) -> u8
+    requires { normal ≡ below d.entries (find_entry c.old.entries p d.entries NORMAL word) }
+    ensures { counted result c.new ≡ drop_normal d p word c.old }
+{
+    match normal {
+        Some(i) => caches::clear_entry(c, p, i),
+        None => 0,
+    }
+}
+
+// What a STORE uses of its step. LOAD's p and word, with no value beside them, stand apart as in its definition and in what caches offers.
+#[derive(Clone, Copy)]
+struct Operands {
     p: usize,
     word: u8,
-    v: u32,
-) -> Answered
-    ensures { outcome result (returned memory lines entries flags) ≡ store d p word v (lent memory lines entries flags) }
+    value: u32,
+}
+
+impl Operands {
+    fn line(self, state: State) -> Entry
+        ensures { result ≡ entry (state_number state) INVALID self.word self.value }
+    {
+        Entry::regular(state, self.word, self.value)
+    }
+}
+
+#[tactic(auto, unfolding(rules::specs::Store::store_through))]
+fn store_through(c: &mut Caches, d: Dims, x: Operands, writes: u8) -> Answered
+    ensures { outcome result c.new ≡ store_through d x.p x.word x.value writes c.old }
 {
-    let i = roll_own(entries, flags, d, p, word);
-    let w = drop_normal(memory, entries, d, p, word, i);
-    store_line(memory, lines, entries, flags, d, p, word, v, w)
+    snoop::plain_request(c, d, x.p, x.word, Cycle::Write);
+    c.memory[usize::from(x.word)] = x.value;
+    c.put_line(x.p, caches::home(d, x.word), x.line(State::Reserved));
+    Answered {
+        answer: Answer::Done,
+        counts: Counts::asked(Cycle::Write, writes.into(), 0),
+    }
+}
+
+#[tactic(auto, unfolding(rules::specs::Store::store_miss))]
+fn store_miss(c: &mut Caches, d: Dims, x: Operands, writes: u8) -> Answered
+    ensures { outcome result c.new ≡ store_miss d x.p x.word x.value writes c.old }
+{
+    let home = caches::home(d, x.word);
+    let evicted = caches::clear_line(c, x.p, home);
+    snoop::plain_request(c, d, x.p, x.word, Cycle::Rfo);
+    c.put_line(x.p, home, x.line(State::Dirty));
+    Answered {
+        answer: Answer::Done,
+        counts: Counts::asked(Cycle::Rfo, u16::from(writes) + u16::from(evicted), 0),
+    }
+}
+
+#[tactic(auto, unfolding(rules::specs::Store::store_line))]
+fn store_line(c: &mut Caches, d: Dims, x: Operands, writes: u8) -> Answered
+    ensures { outcome result c.new ≡ store_line d x.p x.word x.value (counted writes c.old) }
+{
+    let home = caches::home(d, x.word);
+    let line = c.line_at(x.p, home);
+    if !caches::holds(line, x.word) {
+        return store_miss(c, d, x, writes);
+    }
+    if line.state == State::Valid {
+        return store_through(c, d, x, writes);
+    }
+    c.put_line(x.p, home, x.line(State::Dirty));
+    Answered {
+        answer: Answer::Done,
+        counts: Counts::quiet(writes.into()),
+    }
+}
+
+#[tactic(auto, unfolding(rules::specs::Store::store))]
+pub fn store(c: &mut Caches, d: Dims, p: usize, word: u8, value: u32) -> Answered
+    ensures { outcome result c.new ≡ store d p word value c.old }
+{
+    let normal = roll_own(c, d, p, word);
+    let writes = drop_normal(c, d, p, word, normal);
+    store_line(c, d, Operands { p, word, value }, writes)
 }

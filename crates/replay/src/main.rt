@@ -2,8 +2,15 @@
 
 #![tactic(auto)]
 
+use rules::Dims;
 use std::process::ExitCode;
 
 fn main(rt: HostRuntime) -> ExitCode {
-    streams::replay_text(&rt, 4, 16, 4, 4)
+    let dims = Dims {
+        processors: 4,
+        words: 16,
+        lines: 4,
+        entries: 4,
+    };
+    streams::replay_text(&rt, dims)
 }

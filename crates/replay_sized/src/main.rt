@@ -2,9 +2,10 @@
 
 #![tactic(auto)]
 
+use rules::Dims;
 use std::process::ExitCode;
 use std::rt::Env;
-use text::decimals::{Field, read_number};
+use text::decimals::read_number;
 
 // An argument that is missing or no decimal counts as 0. No decimal is longer than ten digits.
 fn argument(rt: &impl Env, place: usize) -> usize {
@@ -12,16 +13,15 @@ fn argument(rt: &impl Env, place: usize) -> usize {
     let Ok(n) = rt.arg(place, &mut bytes) else {
         return 0;
     };
-    let Field::Number(v) = read_number(&bytes, 0, n) else {
-        return 0;
-    };
-    v as usize
+    read_number(&bytes, 0, n).unwrap_or(0) as usize
 }
 
 fn main(rt: HostRuntime) -> ExitCode {
-    let processors = argument(&rt, 1);
-    let words = argument(&rt, 2);
-    let lines = argument(&rt, 3);
-    let entries = argument(&rt, 4);
-    streams::replay_text(&rt, processors, words, lines, entries)
+    let dims = Dims {
+        processors: argument(&rt, 1),
+        words: argument(&rt, 2),
+        lines: argument(&rt, 3),
+        entries: argument(&rt, 4),
+    };
+    streams::replay_text(&rt, dims)
 }

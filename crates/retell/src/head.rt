@@ -1,70 +1,47 @@
 // A job's first part: 7 numbers of eight bytes, the lowest byte first.
 
-ghost use Rattle.std.specs.Prelude.{◌<◌, ◌≤◌};
-ghost use Rattle.io.specs.Counts.{IsPrefixLen};
-
 use listing::Replaying;
+use rules::Dims;
+use std::io::Read;
+use streams::reading::read_full;
 
-const PROCESSORS: usize = 0;
-
-const WORDS: usize = 1;
-
-const LINES: usize = 2;
-
-const ENTRIES: usize = 3;
-
-pub(crate) const ROOM: usize = 4;
-
-const FILL: usize = 5;
-
-pub(crate) const LENGTH: usize = 6;
-
-fn wide(byte: u8) -> u64 {
-    byte as u64
+#[derive(Clone, Copy)]
+pub(crate) struct Head {
+    dims: Dims,
+    // How many bytes are lent to each piece.
+    pub(crate) room: usize,
+    // The byte that the buffer is filled with before each piece.
+    pub(crate) fill: u8,
+    // How long the text is.
+    pub(crate) length: usize,
 }
 
-fn four_at(head: &[u8; 56], at: usize) -> u64
-    requires { at < 53 }
-{
-    wide(head[at])
-        | (wide(head[at + 1]) << 8)
-        | (wide(head[at + 2]) << 16)
-        | (wide(head[at + 3]) << 24)
-}
+impl Head {
+    // None where the input ends before the seventh number.
+    pub(crate) fn read<R: Read>(reader: &mut R) -> Option<Head> {
+        let mut bytes = [0u8; 56];
+        if read_full(reader, &mut bytes).ok()? < 56 {
+            return None;
+        }
+        let (numbers, _) = bytes.as_chunks::<8>();
+        let [processors, words, lines, entries, room, fill, length] = numbers else {
+            return None;
+        };
+        let dims = Dims {
+            processors: usize::from_le_bytes(*processors),
+            words: usize::from_le_bytes(*words),
+            lines: usize::from_le_bytes(*lines),
+            entries: usize::from_le_bytes(*entries),
+        };
+        Some(Head {
+            dims,
+            room: usize::from_le_bytes(*room),
+            fill: fill[0],
+            length: usize::from_le_bytes(*length),
+        })
+    }
 
-pub(crate) fn field(head: &[u8; 56], place: usize) -> u64
-    requires { place < 7 }
-{
-    let at = place * 8;
-    four_at(head, at) | (four_at(head, at + 4) << 32)
-}
-
-// The byte that the buffer is filled with before each piece.
-pub(crate) fn fill_of(head: &[u8; 56]) -> u8 {
-    (field(head, FILL) % 256) as u8
-}
-
-pub(crate) fn begin(head: &[u8; 56], s: &[u8]) -> Replaying {
-    listing::begin(
-        s,
-        field(head, PROCESSORS) as usize,
-        field(head, WORDS) as usize,
-        field(head, LINES) as usize,
-        field(head, ENTRIES) as usize,
-    )
-}
-
-// A number above what it may be counts as that.
-fn at_most(number: u64, most: usize) -> usize
-    ensures { result ≤ most }
-{
-    let n = number as usize;
-    if n < most { n } else { most }
-}
-
-// How many places are lent, where a job asks for so many.
-pub(crate) fn lent(asked: u64, places: &[u8]) -> usize
-    ensures { IsPrefixLen result places.now }
-{
-    at_most(asked, places.len())
+    pub(crate) fn begin(self, s: &[u8]) -> Replaying {
+        listing::begin(s, self.dims)
+    }
 }

@@ -14,7 +14,8 @@ use Rattle.entry.specs.Numbers.{VALID, NORMAL, TENTATIVE, T_RFO, LOAD, STORE, LT
 use Rattle.entry.specs.Refusals.{accepted}
 use Rattle.entry.specs.Answer.{quiet, asked, refusal_number, is_refusal}
 use Rattle.rules.specs.declared.Dims.{Dims}
-use Rattle.rules.specs.State.{Caches, Outcome, Counted, line_at, entry_at, TSTATUS}
+use Rattle.rules.specs.declared.Caches.{Caches}
+use Rattle.rules.specs.State.{Outcome, Counted, line_at, entry_at, TSTATUS}
 use Rattle.rules.specs.Own.{home, holds, find_entry, free_slot}
 use Rattle.rules.specs.Rollback.{rollback, begun}
 use Rattle.rules.specs.Snoop.{refuses}
@@ -27,10 +28,10 @@ use Rattle.rules.specs.Step.{operands_refusal, allowed, refused, narrowed, take_
 abbrev pub refusal_of : Outcome → ℕ
 refusal_of r = refusal_number r.told.answer
 
-abbrev is_refused : Outcome → Bool
+abbrev pub is_refused : Outcome → Bool
 is_refused r = is_refusal r.told.answer
 
-abbrev Accepts : Outcome → Type 0
+abbrev pub Accepts : Outcome → Type 0
 Accepts r = is_refused r ≡ false
 
 unrefused : (a : Answer) → is_refusal a ≡ false → refusal_number a ≡ accepted
@@ -43,7 +44,7 @@ unrefused False h = refl
 unrefused Aborted h = refl
 unrefused (Refused n) h = absurd (true≢false h)
 
-either_accepts : (b : Bool) (x y : Outcome) → Accepts x → Accepts y → Accepts (pick b x y)
+pub either_accepts : (b : Bool) (x y : Outcome) → Accepts x → Accepts y → Accepts (pick b x y)
 either_accepts true x y h h' = h
 either_accepts false x y h h' = h'
 
@@ -56,7 +57,7 @@ module _ (d : Dims) (p w : ℕ) where
   unfolding load_on
   on_accepts s = either_accepts (ltb (find_entry s.entries p d.entries NORMAL w) d.entries) _ (load_miss d p w s) refl (miss_accepts s)
 
-  load_accepts : (s : Caches) → Accepts (load d p w s)
+  pub load_accepts : (s : Caches) → Accepts (load d p w s)
   unfolding load
   load_accepts s =
       let i = find_entry s.entries p d.entries TENTATIVE w in
@@ -65,7 +66,7 @@ module _ (d : Dims) (p w : ℕ) where
       (either_accepts (eqb (entry_at s p i).state VALID) _ _ refl (on_accepts (rollback d p s))) (on_accepts s))
 
   module _ (v : ℕ) where
-    store_accepts : (s : Caches) → Accepts (store d p w v s)
+    pub store_accepts : (s : Caches) → Accepts (store d p w v s)
     unfolding store store_line store_through store_miss
     store_accepts s = by (drop_normal d p w (roll_own d p w s))
       where
@@ -108,7 +109,7 @@ module _ (d : Dims) (p w : ℕ) where
         (hit_accepts op j k.writes (open_normal d p j s).writes (open_normal d p j s).after)
         (access_miss_accepts op k.writes s))
 
-    transact_accepts : (op : ℕ) (s : Caches) → Accepts (transact d op p w v s)
+    pub transact_accepts : (op : ℕ) (s : Caches) → Accepts (transact d op p w v s)
     unfolding transact
     transact_accepts op s =
         let t = begun p s in

@@ -11,7 +11,8 @@ use Rattle.entry.specs.Numbers.{LOAD, STORE, LT, LTX, ST, COMMIT, ABORT, VALIDAT
 use Rattle.entry.specs.Refusals.{accepted, no_such_processor, no_such_word}
 use Rattle.entry.specs.Step.{uses_word}
 use Rattle.rules.specs.declared.Dims.{Dims}
-use Rattle.rules.specs.State.{Caches, Outcome}
+use Rattle.rules.specs.declared.Caches.{Caches}
+use Rattle.rules.specs.State.{Outcome}
 use Rattle.rules.specs.Step.{operands_refusal, allowed, refused, narrowed, take_step}
 use Rattle.rules.proofs.Refusing.{refusal_of}
 

@@ -4,7 +4,8 @@ use Rattle.laws.specs.Choice.{pick}
 use Rattle.entry.specs.declared.answer.Answer.TheVariants.{Done, Success, Failure, True, False}
 use Rattle.entry.specs.Answer.{no_cycles}
 use Rattle.rules.specs.declared.Dims.{Dims}
-use Rattle.rules.specs.State.{Caches, caches, Outcome, gives, TSTATUS}
+use Rattle.rules.specs.declared.Caches.{Caches}
+use Rattle.rules.specs.State.{caches, Outcome, gives, TSTATUS}
 use Rattle.rules.specs.Rollback.{rollback, committed_entries, ended}
 
 -- "COMMIT with TSTATUS true: backups become invalid, tentative entries NORMAL, SUCCESS. With false: FAILURE."

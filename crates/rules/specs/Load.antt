@@ -6,7 +6,8 @@ use Rattle.entry.specs.Numbers.{INVALID, VALID, NORMAL, TENTATIVE, READ}
 use Rattle.entry.specs.Packing.{entry}
 use Rattle.entry.specs.Answer.{asked, no_cycles}
 use Rattle.rules.specs.declared.Dims.{Dims}
-use Rattle.rules.specs.State.{Caches, Outcome, gives, line_at, entry_at, word_at, with_line}
+use Rattle.rules.specs.declared.Caches.{Caches}
+use Rattle.rules.specs.State.{Outcome, gives, line_at, entry_at, word_at, with_line}
 use Rattle.rules.specs.Own.{home, holds, find_entry}
 use Rattle.rules.specs.Rollback.{rollback}
 use Rattle.rules.specs.Snoop.{writes, clear_line, plain_request}

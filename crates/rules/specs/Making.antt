@@ -1,11 +1,12 @@
 -- "The machine's dimensions", and making a machine: refusals 1 to 5.
-use Rattle.std.specs.Prelude.{Bool, List, [], ◌∷◌, ◌++◌, ℕ, ◌-◌, eqb, leb, length, replicate}
+use Rattle.std.specs.Prelude.{Bool, Result, Ok, Err, List, [], ◌∷◌, ◌++◌, ℕ, ◌-◌, eqb, leb, length, replicate}
 use Rattle.laws.specs.Choice.{both, either}
+use Rattle.entry.specs.declared.refusals.Refusal.{Refusal}
 use Rattle.rules.specs.declared.Dims.{Dims}
 use Rattle.rules.specs.declared.Machine.{Machine}
-use Rattle.rules.specs.declared.Made.{Made}
-use Rattle.rules.specs.State.{Caches, caches, machine_of, true_flag, false_flag}
-use Rattle.entry.specs.Refusals.{accepted, bad_processors, bad_words, bad_lines, bad_entries, bad_memory, unless}
+use Rattle.rules.specs.declared.Caches.{Caches}
+use Rattle.rules.specs.State.{caches, machine_of, true_flag, false_flag}
+use Rattle.entry.specs.Refusals.{accepted, bad_processors, bad_words, bad_lines, bad_entries, bad_memory, unless, number_of}
 
 abbrev pub dims : ℕ → ℕ → ℕ → ℕ → Dims
 dims p w l e = record { processors = p; words = w; lines = l; entries = e }
@@ -49,6 +50,11 @@ fresh d memory = caches (padded 256 memory) (replicate 512 0) (replicate 512 0) 
 abbrev pub smallest : Machine
 smallest = machine_of (dims 1 1 1 1) (fresh (dims 1 1 1 1) (0 ∷ []))
 
+-- what a making gives: its refusal or 0, and a machine
+pub record Made : Type 0 where
+  pub refusal : ℕ
+  pub machine : Machine
+
 abbrev pub made : ℕ → Machine → Made
 made n m = record { refusal = n; machine = m }
 
@@ -57,3 +63,8 @@ unfoldable pub make_of : Dims → List ℕ → Made
 make_of d memory =
     let m = machine_of d (fresh d memory) in
     unless (eqb (make_refusal d memory) accepted) (made (make_refusal d memory) smallest) (made accepted m)
+
+-- a making's result so seen: the smallest machine stands in for one that was refused
+abbrev pub made_by : Result Machine Refusal → Made
+made_by (Ok m) = made accepted m
+made_by (Err r) = made (number_of r) smallest

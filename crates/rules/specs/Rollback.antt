@@ -5,7 +5,8 @@ use Rattle.entry.specs.declared.Entry.{Entry}
 use Rattle.entry.specs.Packing.{pack, unpack}
 use Rattle.entry.specs.Entry.{rolled_back, committed}
 use Rattle.rules.specs.declared.Dims.{Dims}
-use Rattle.rules.specs.State.{Caches, caches, place, active_place, status_place, true_flag, false_flag, with_flags}
+use Rattle.rules.specs.declared.Caches.{Caches}
+use Rattle.rules.specs.State.{caches, place, active_place, status_place, true_flag, false_flag, with_flags}
 
 abbrev pub repacked : (Entry → Entry) → ℕ → ℕ
 repacked f x = pack (f (unpack x))

@@ -9,8 +9,8 @@ use Rattle.entry.specs.Step.{step}
 use Rattle.entry.specs.Answer.{answer_number, answer_value, refusal_number}
 use Rattle.rules.specs.declared.Dims.{Dims}
 use Rattle.rules.specs.declared.Machine.{Machine}
-use Rattle.rules.specs.declared.Ran.{Ran}
-use Rattle.rules.specs.State.{Caches, caches_of, machine_of, Outcome}
+use Rattle.rules.specs.declared.Caches.{Caches}
+use Rattle.rules.specs.State.{caches_of, machine_of, Outcome}
 use Rattle.entry.specs.Refusals.{accepted, not_sound, bad_columns, unless}
 use Rattle.rules.specs.SoundTest.{sound_of}
 use Rattle.rules.specs.Step.{take_step}
@@ -91,6 +91,12 @@ pub record Carried : Type 0 where
 
 abbrev pub carried : Caches → Columns → Carried
 carried s c = record { state = s; columns = c }
+
+-- a run's answer: how many steps were taken, the refusal that stopped it, or `accepted`, and the machine then
+pub record Ran : Type 0 where
+  pub taken : ℕ
+  pub refusal : ℕ
+  pub machine : Machine
 
 -- all that a run leaves
 pub record Left : Type 0 where

@@ -5,7 +5,8 @@ use Rattle.laws.specs.Search.{first_from}
 use Rattle.entry.specs.declared.Entry.{Entry}
 use Rattle.entry.specs.Numbers.{DIRTY, NORMAL, BACKUP}
 use Rattle.rules.specs.declared.Dims.{Dims}
-use Rattle.rules.specs.State.{Caches, copy_at, line_at, entry_at, word_at}
+use Rattle.rules.specs.declared.Caches.{Caches}
+use Rattle.rules.specs.State.{copy_at, line_at, entry_at, word_at}
 use Rattle.rules.specs.Own.{home}
 
 abbrev pub is_dirty : Entry → ℕ → Bool

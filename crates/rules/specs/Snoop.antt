@@ -8,7 +8,8 @@ use Rattle.entry.specs.Numbers.{DIRTY, TENTATIVE}
 use Rattle.entry.specs.Packing.{no_entry}
 use Rattle.entry.specs.Entry.{reserved_or_dirty, takes, snooped}
 use Rattle.rules.specs.declared.Dims.{Dims}
-use Rattle.rules.specs.State.{Caches, caches, copy_at, with_copy, line_at, entry_at}
+use Rattle.rules.specs.declared.Caches.{Caches}
+use Rattle.rules.specs.State.{caches, copy_at, with_copy, line_at, entry_at}
 use Rattle.rules.specs.Own.{home, holds, find_entry, live_entry}
 use Rattle.rules.specs.Rollback.{rollback}
 

@@ -5,7 +5,8 @@ use Rattle.entry.specs.Numbers.{INVALID, DIRTY, BACKUP, TENTATIVE}
 use Rattle.entry.specs.Entry.{reserved_or_dirty}
 use Rattle.entry.specs.Packing.{packed_end, no_entry}
 use Rattle.rules.specs.declared.Dims.{Dims}
-use Rattle.rules.specs.State.{Caches, place, line_at, entry_at, word_at, active_flag, status_flag, true_flag}
+use Rattle.rules.specs.declared.Caches.{Caches}
+use Rattle.rules.specs.State.{place, line_at, entry_at, word_at, active_flag, status_flag, true_flag}
 use Rattle.rules.specs.Making.{dims_refusal}
 use Rattle.entry.specs.Refusals.{accepted}
 

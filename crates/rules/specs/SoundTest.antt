@@ -9,7 +9,8 @@ use Rattle.entry.specs.Numbers.{INVALID, DIRTY, BACKUP, TENTATIVE}
 use Rattle.entry.specs.Packing.{packed_end, unpack}
 use Rattle.entry.specs.Entry.{reserved_or_dirty}
 use Rattle.rules.specs.declared.Dims.{Dims}
-use Rattle.rules.specs.State.{Caches, active_flag, status_flag, true_flag}
+use Rattle.rules.specs.declared.Caches.{Caches}
+use Rattle.rules.specs.State.{active_flag, status_flag, true_flag}
 use Rattle.rules.specs.Making.{dims_refusal}
 use Rattle.entry.specs.Refusals.{accepted}
 

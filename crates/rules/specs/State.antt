@@ -7,23 +7,18 @@ use Rattle.entry.specs.declared.answer.Answered.{Answered}
 use Rattle.entry.specs.declared.answer.Counts.{Counts}
 use Rattle.entry.specs.Packing.{pack, unpack}
 use Rattle.entry.specs.Answer.{answered}
+use Rattle.rules.specs.declared.Caches.{Caches}
 use Rattle.rules.specs.declared.Dims.{Dims}
 use Rattle.rules.specs.declared.Machine.{Machine}
-
-pub record Caches : Type 0 where
-  pub memory : List ℕ
-  pub lines : List ℕ
-  pub entries : List ℕ
-  pub flags : List ℕ
 
 abbrev pub caches : List ℕ → List ℕ → List ℕ → List ℕ → Caches
 caches m l e f = record { memory = m; lines = l; entries = e; flags = f }
 
 abbrev pub caches_of : Machine → Caches
-caches_of m = caches m.memory m.lines m.entries m.flags
+caches_of m = m.caches
 
 abbrev pub machine_of : Dims → Caches → Machine
-machine_of d s = record { dims = d; memory = s.memory; lines = s.lines; entries = s.entries; flags = s.flags }
+machine_of d s = record { dims = d; caches = s }
 
 -- Where processor p's line or entry i stands. The remainders keep every access inside the arrays; within the dimensions they do nothing.
 abbrev pub place : ℕ → ℕ → ℕ

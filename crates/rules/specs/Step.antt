@@ -1,5 +1,5 @@
 -- One step: refusals 9, 6, 7, 8, then the step by its number; and the settled values, with refusals 9 and 8.
-use Rattle.std.specs.Prelude.{not, List, ℕ, ◌%◌, eqb, ltb, set, replicate}
+use Rattle.std.specs.Prelude.{Result, Ok, Err, not, List, ℕ, ◌%◌, eqb, ltb, set, replicate}
 use Rattle.laws.specs.Choice.{pick, either}
 use Rattle.laws.specs.Fold.{fold_range}
 use Rattle.entry.specs.declared.answer.Answer.{Answer}
@@ -7,14 +7,15 @@ use Rattle.entry.specs.declared.answer.Answer.TheVariants.{Value, Refused}
 use Rattle.entry.specs.declared.answer.Answered.{Answered}
 use Rattle.entry.specs.declared.step.Step.{Step}
 use Rattle.entry.specs.Numbers.{LOAD, STORE, LT, LTX, ST, COMMIT, ABORT, VALIDATE, INTERRUPT}
-use Rattle.entry.specs.Refusals.{accepted, not_sound, no_such_step, no_such_processor, no_such_word, unless}
+use Rattle.entry.specs.Refusals.{accepted, not_sound, no_such_step, no_such_processor, no_such_word, unless, number_of}
 use Rattle.entry.specs.Step.{uses_word}
 use Rattle.entry.specs.Answer.{refused_by}
 use Rattle.rules.specs.declared.Dims.{Dims}
 use Rattle.rules.specs.declared.Machine.{Machine}
 use Rattle.rules.specs.declared.Stepped.{Stepped}
-use Rattle.rules.specs.declared.Settle.{Settle}
-use Rattle.rules.specs.State.{Caches, caches_of, machine_of, Outcome, outcome}
+use Rattle.entry.specs.declared.refusals.Refusal.{Refusal}
+use Rattle.rules.specs.declared.Caches.{Caches}
+use Rattle.rules.specs.State.{caches_of, machine_of, Outcome, outcome}
 use Rattle.rules.specs.Load.{load}
 use Rattle.rules.specs.Store.{store}
 use Rattle.rules.specs.Transact.{transact}
@@ -76,6 +77,11 @@ settled_of m word =
     let a = Value (settled_in m.dims word (caches_of m)) in
     unless (sound_of m.dims (caches_of m)) (Refused not_sound) (unless (ltb word m.dims.words) (Refused no_such_word) a)
 
+-- every word's settled value, 0 past the words; zeros beside a refusal
+pub record Settle : Type 0 where
+  pub refusal : ℕ
+  pub values : List ℕ
+
 abbrev pub settle : ℕ → List ℕ → Settle
 settle n values = record { refusal = n; values = values }
 
@@ -91,3 +97,8 @@ unfoldable pub settle_of : Machine → Settle
 settle_of m =
     let a = settled_all m.dims (caches_of m) in
     unless (sound_of m.dims (caches_of m)) (settle not_sound (replicate 256 0)) (settle accepted a)
+
+-- a settling's result so seen
+abbrev pub settled_by : Result (List ℕ) Refusal → Settle
+settled_by (Ok values) = settle accepted values
+settled_by (Err r) = settle (number_of r) (replicate 256 0)

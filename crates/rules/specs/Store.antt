@@ -6,7 +6,8 @@ use Rattle.entry.specs.Numbers.{INVALID, VALID, RESERVED, DIRTY, NORMAL, TENTATI
 use Rattle.entry.specs.Packing.{entry}
 use Rattle.entry.specs.Answer.{asked, quiet}
 use Rattle.rules.specs.declared.Dims.{Dims}
-use Rattle.rules.specs.State.{Caches, Outcome, gives, Counted, counted, line_at, entry_at, with_line, with_memory}
+use Rattle.rules.specs.declared.Caches.{Caches}
+use Rattle.rules.specs.State.{Outcome, gives, Counted, counted, line_at, entry_at, with_line, with_memory}
 use Rattle.rules.specs.Own.{home, holds, find_entry}
 use Rattle.rules.specs.Rollback.{rollback}
 use Rattle.rules.specs.Snoop.{writes, clear_line, clear_entry, plain_request}

@@ -9,7 +9,8 @@ use Rattle.entry.specs.Packing.{entry}
 use Rattle.entry.specs.Entry.{stored, with_tag, with_state}
 use Rattle.entry.specs.Answer.{asked, quiet, no_cycles}
 use Rattle.rules.specs.declared.Dims.{Dims}
-use Rattle.rules.specs.State.{Caches, caches, Outcome, gives, Counted, counted, line_at, entry_at, with_copy, with_entry, word_at, TSTATUS}
+use Rattle.rules.specs.declared.Caches.{Caches}
+use Rattle.rules.specs.State.{caches, Outcome, gives, Counted, counted, line_at, entry_at, with_copy, with_entry, word_at, TSTATUS}
 use Rattle.rules.specs.Own.{home, holds, find_entry, free_slot}
 use Rattle.rules.specs.Rollback.{rollback, begun}
 use Rattle.rules.specs.Snoop.{writes, written_back, clear_line, clear_entry, snoop, refuses}

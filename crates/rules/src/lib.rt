@@ -3,9 +3,10 @@
 #![tactic(auto)]
 
 ghost use Rattle.std.specs.Prelude.{◌≡◌};
-ghost use Rattle.rules.specs.State.{place};
+ghost use Rattle.rules.specs.State.{place, line_at, entry_at, word_at, with_line, with_entry, TSTATUS};
 ghost use Rattle.rules.specs.Step.{narrowed};
 
+use entry::Entry;
 use entry::answer::Answered;
 
 #[derive(Clone, Copy)]
@@ -16,22 +17,28 @@ pub struct Dims {
     pub entries: usize,
 }
 
-// The lent arrays: memory, regular lines or transactional entries, flags.
+// Memory; regular lines or transactional entries, packed; flags.
 pub type Memory = [u32; 256];
 
 pub type Copies = [u64; 512];
 
 pub type Flags = [u8; 16];
 
-// Processor p's regular line i stands at p * 64 + i, packed, and so does its transactional entry i. TACTIVE of p is flag p and TSTATUS
-// flag 8 + p, each 0 or 1.
+// The state that steps change. Processor p's regular line i stands at place(p, i), and so does its transactional entry i. TACTIVE of p is flag p
+// and TSTATUS flag 8 + p, each 0 or 1.
 #[derive(Clone, Copy)]
-pub struct Machine {
-    pub dims: Dims,
+pub struct Caches {
     pub memory: Memory,
     pub lines: Copies,
     pub entries: Copies,
     pub flags: Flags,
+}
+
+// No step changes the dimensions: it is lent the caches alone.
+#[derive(Clone, Copy)]
+pub struct Machine {
+    pub dims: Dims,
+    pub caches: Caches,
 }
 
 // Where processor p's line or entry i stands. The remainders keep every access inside the arrays; within the dimensions they do nothing.
@@ -41,6 +48,45 @@ pub fn place(p: usize, i: usize) -> usize
     p % 8 * 64 + i % 64
 }
 
+impl Caches {
+    pub fn line_at(&self, p: usize, i: usize) -> Entry
+        ensures { result ≡ line_at self.now p i }
+    {
+        Entry::unpack(self.lines[place(p, i)])
+    }
+
+    pub fn entry_at(&self, p: usize, i: usize) -> Entry
+        ensures { result ≡ entry_at self.now p i }
+    {
+        Entry::unpack(self.entries[place(p, i)])
+    }
+
+    pub fn word_at(&self, word: u8) -> u32
+        ensures { result ≡ word_at self.now word }
+    {
+        self.memory[usize::from(word)]
+    }
+
+    pub fn put_line(&mut self, p: usize, i: usize, e: Entry)
+        ensures { self.new ≡ with_line self.old p i e }
+    {
+        self.lines[place(p, i)] = e.pack();
+    }
+
+    pub fn put_entry(&mut self, p: usize, i: usize, e: Entry)
+        ensures { self.new ≡ with_entry self.old p i e }
+    {
+        self.entries[place(p, i)] = e.pack();
+    }
+
+    // TSTATUS of p.
+    pub fn is_status_up(&self, p: usize) -> bool
+        ensures { result ≡ TSTATUS self.now p }
+    {
+        self.flags[8 + p % 8] != 0
+    }
+}
+
 // The byte that the caches know a word by.
 pub fn narrowed(word: u32) -> u8
     ensures { result ≡ narrowed word }
@@ -48,30 +94,8 @@ pub fn narrowed(word: u32) -> u8
     (word % 256) as u8
 }
 
-// refusal is 0 where the machine was made.
-#[derive(Clone, Copy)]
-pub struct Made {
-    pub refusal: u8,
-    pub machine: Machine,
-}
-
-// Every word's settled value, 0 past the words.
-#[derive(Clone, Copy)]
-pub struct Settle {
-    pub refusal: u8,
-    pub values: Memory,
-}
-
 #[derive(Clone, Copy)]
 pub struct Stepped {
     pub told: Answered,
-    pub machine: Machine,
-}
-
-// refusal is 0 where every step was taken.
-#[derive(Clone, Copy)]
-pub struct Ran {
-    pub taken: usize,
-    pub refusal: u8,
     pub machine: Machine,
 }

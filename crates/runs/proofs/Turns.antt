@@ -1,25 +1,32 @@
 -- A turn of a run's loop, a refused step, and the end, over plain variables.
 use mathlib.Core.Path.{◌≡◌, sym, ◌∙◌, ap}
-use mathlib.Core.Bool.{true, false}
+use mathlib.Core.Bool.{false}
 use lib.Dec.{eqb}
-use Prim.Native.Nat.{ℕ, ◌+◌, ◌-◌, ◌<◌, ◌≤◌}
+use Prim.Native.Nat.{ℕ, ◌-◌, ◌<◌, ◌≤◌, ◌+◌}
+use lib.ListN.{length}
 use native.Mathlib.Omega.{arith}
 use borrow.Author.Tests.{eqb-false, lt-ltb, le-ltb, not-true}
+use Rattle.std.specs.Prelude.{Ok, Err}
 use Rattle.laws.specs.Until.{until_range, until_end, until_stop, until_turn}
 use Rattle.entry.specs.declared.answer.Answered.{Answered}
+use Rattle.entry.specs.declared.refusals.Refusal.{Refusal}
 use Rattle.entry.specs.declared.step.Step.{Step}
-use Rattle.entry.specs.Refusals.{accepted}
-use Rattle.entry.specs.Answer.{refusal_number, is_refusal}
+use Rattle.entry.specs.Refusals.{accepted, number_of}
+use Rattle.entry.specs.Answer.{refusal_number, is_refusal, refused_by}
 use Rattle.rules.specs.declared.Dims.{Dims}
-use Rattle.rules.specs.State.{Caches, Outcome, outcome}
+use Rattle.rules.specs.declared.Caches.{Caches}
+use Rattle.rules.specs.State.{Outcome, outcome}
 use Rattle.rules.specs.Step.{take_step}
 use Rattle.rules.specs.Run.{Steps, step_at, Columns, written, Carried, carried, outcome_at, refusal_at, stops_at, turn, stopped}
 use Rattle.rules.proofs.Refusing.{tells_refusal, refused_stays}
 use Rattle.runs.specs.Halting.{halted}
 
-module _ (d : Dims) (x : Steps) (i n : ℕ) (c : Carried) (whole : ℕ × Carried)
-    (inv : until_range (stops_at d x) (turn d x) i (n - i) c ≡ whole) where
-  pub ran_out : n ≤ i → i ≤ n → halted d (record { taken = n; refusal = accepted }) c ≡ stopped d x n whole
+module _ (d : Dims) (x : Steps) (i : ℕ) (c : Carried) (whole : ℕ × Carried)
+    (inv : until_range (stops_at d x) (turn d x) i (length x.ops - i) c ≡ whole) where
+  abbrev pub n : ℕ
+  n = length x.ops
+
+  pub ran_out : n ≤ i → i ≤ n → halted d x (Ok tt) c ≡ stopped d x n whole
   ran_out h l = let e : n ≡ i = omega arith in rw (← inv, until_end (stops_at d x) (turn d x) i n c h, le-ltb i n h, e)
 
   -- the step there answered a, and left s
@@ -35,17 +42,16 @@ module _ (d : Dims) (x : Steps) (i n : ℕ) (c : Carried) (whole : ℕ × Carrie
     stops_is = ap (λ (z : Answered). is_refusal z.answer) told_is ∙ tells_refusal d (step_at x i) c.state
 
     -- a refused step leaves the state as it was
-    pub halts : is_refusal a.answer ≡ true → (k : ℕ) → k ≡ refusal_number a.answer → (cs : Columns) → cs ≡ c.columns
-        → halted d (record { taken = i; refusal = k }) (carried s cs) ≡ stopped d x n whole
-    halts t k ek cs ec =
-        let stops = sym stops_is ∙ t in
+    pub halts : (r : Refusal) → a ≡ refused_by (number_of r)
+        → halted d x (Err (record { taken = i; refusal = r })) (carried s c.columns) ≡ stopped d x n whole
+    halts r ea =
+        let stops = sym stops_is ∙ ap (λ (z : Answered). is_refusal z.answer) ea in
         let refused = eqb-false (refusal_at d x i c.state) accepted (not-true (eqb (refusal_at d x i c.state) accepted) stops) in
         rw (
           ← inv,
           until_stop (stops_at d x) (turn d x) i n c h stops,
           lt-ltb i n h,
-          ec,
-          ek ∙ ap (λ (z : Answered). refusal_number z.answer) told_is,
+          ap (λ (z : Answered). refusal_number z.answer) (sym ea ∙ told_is),
           after_is ∙ refused_stays d (step_at x i) c.state refused,
         )
 

@@ -1,2 +1,3 @@
 pub mod Halting
+pub mod Lists
 pub mod Within

@@ -1,67 +1,37 @@
-// A run's loop on the lent arrays, from a sound state.
+// A run's loop on the lent caches, from a sound state.
 
 ghost use Rattle.std.specs.Prelude.{◌≡◌, true};
-ghost use Rattle.rules.specs.Run.{steps, columns, columns_ok, carried, run_sound};
+ghost use Rattle.rules.specs.Run.{columns_ok, carried, run_sound};
 ghost use Rattle.runs.specs.Halting.{halted};
-ghost use Rattle.rules.specs.Lent.{lent, returned, lent_steps, columns_of};
+ghost use Rattle.runs.specs.Lists.{step_lists, lists, SameSlices};
 
-use crate::columns::{step_at, write_answer};
-use entry::refusals::ACCEPTED;
-use rules::{Copies, Dims, Flags, Memory};
+use crate::columns::{Columns, Steps};
+use entry::refusals::Refusal;
+use rules::{Caches, Dims};
 
-// refusal is 0 where every step was taken.
+// A refusal, and how many steps were taken before it.
 #[derive(Clone, Copy)]
 pub struct Halt {
     pub taken: usize,
-    pub refusal: u8,
+    pub refusal: Refusal,
 }
 
-// The columns have one length.
 pub(crate) fn run_sound(
-    memory: &mut Memory,
-    lines: &mut Copies,
-    entries: &mut Copies,
-    flags: &mut Flags,
+    c: &mut Caches,
     d: Dims,
-    ops: &[u8],
-    cores: &[u8],
-    words: &[u32],
-    values: &[u32],
-    answers: &mut [u8],
-    results: &mut [u32],
-    read: &mut [u32],
-    rfo: &mut [u32],
-    write: &mut [u32],
-    t_read: &mut [u32],
-    t_rfo: &mut [u32],
-    busy: &mut [u32],
-) -> Halt
-    requires { columns_ok (steps ops.now cores.now words.now values.now)
-        (columns answers.old results.old read.old rfo.old write.old t_read.old t_rfo.old busy.old) ≡ true }
-    ensures { let c = columns_of answers results read rfo write t_read t_rfo busy in
-        halted d result (carried (returned memory lines entries flags) c.exit) ≡
-        run_sound d (lent_steps ops cores words values) (lent memory lines entries flags) c.entry }
+    steps: &Steps<'_>,
+    columns: &mut Columns<'_>,
+) -> Result<(), Halt>
+    requires { columns_ok (step_lists steps.now) (lists columns.old) ≡ true }
+    ensures same_slices { SameSlices columns.new columns.old }
+    ensures run { let x = step_lists steps.now in
+        halted d x result (carried c.new (lists columns.new)) ≡ run_sound d x c.old (lists columns.old) }
 {
-    let n = ops.len();
-    let mut i: usize = 0;
-    while i < n {
-        let step = step_at(ops, cores, words, values, i);
-        let told = steps::take_step(memory, lines, entries, flags, d, step);
-        let answer = told.answer;
-        let counts = told.counts;
-        if answer.is_refusal() {
-            return Halt {
-                taken: i,
-                refusal: answer.refusal(),
-            };
+    for i in 0..steps.len() {
+        match steps::answer(c, d, steps.step_at(i)) {
+            Ok(told) => columns.write(i, told),
+            Err(refusal) => return Err(Halt { taken: i, refusal }),
         }
-        write_answer(
-            answers, results, read, rfo, write, t_read, t_rfo, busy, i, answer, counts,
-        );
-        i += 1;
     }
-    Halt {
-        taken: n,
-        refusal: ACCEPTED,
-    }
+    Ok(())
 }

@@ -15,7 +15,8 @@ use Rattle.entry.specs.Packing.{entry, InRange}
 use Rattle.entry.specs.Entry.{stored, with_state}
 use Rattle.entry.specs.Answer.{asked, quiet}
 use Rattle.rules.specs.declared.Dims.{Dims}
-use Rattle.rules.specs.State.{Caches, gives, entry_at, with_entry}
+use Rattle.rules.specs.declared.Caches.{Caches}
+use Rattle.rules.specs.State.{gives, entry_at, with_entry}
 use Rattle.rules.specs.Own.{home}
 use Rattle.rules.specs.Rollback.{rollback}
 use Rattle.rules.specs.Snoop.{snoop, refuses}

@@ -14,7 +14,8 @@ use Rattle.entry.specs.Answer.{asked, quiet, no_cycles, refused_by}
 use Rattle.entry.specs.Refusals.{accepted, not_sound}
 use Rattle.rules.specs.declared.Dims.{Dims}
 use Rattle.rules.specs.declared.Machine.{Machine}
-use Rattle.rules.specs.State.{Caches, caches_of, Outcome, Counted, counted, line_at, entry_at, TSTATUS}
+use Rattle.rules.specs.declared.Caches.{Caches}
+use Rattle.rules.specs.State.{caches_of, Outcome, Counted, counted, line_at, entry_at, TSTATUS}
 use Rattle.rules.specs.Own.{home, holds, find_entry, free_slot}
 use Rattle.rules.specs.Rollback.{rollback, begun}
 use Rattle.rules.specs.Snoop.{writes, clear_entry, refuses}

@@ -14,7 +14,8 @@ use Rattle.entry.specs.declared.Entry.{Entry}
 use Rattle.entry.specs.Numbers.{INVALID, RESERVED, DIRTY, NORMAL, BACKUP, TENTATIVE}
 use Rattle.entry.specs.Packing.{pack, unpack, InRange, unpack_pack}
 use Rattle.rules.specs.declared.Dims.{Dims}
-use Rattle.rules.specs.State.{Caches, place, copy_at, with_copy, word_at, false_flag, active_flag, TSTATUS}
+use Rattle.rules.specs.declared.Caches.{Caches}
+use Rattle.rules.specs.State.{place, copy_at, with_copy, word_at, false_flag, active_flag, TSTATUS}
 use Rattle.rules.specs.Own.{home}
 use Rattle.theory.specs.View.{LineState, valid, reserved, dirty, View}
 use Rattle.theory.proofs.Cache.{Slot, vacant, slot_normal, slotBackup, slot_tentative, Line, blank, filled}

@@ -9,7 +9,8 @@ use Rattle.entry.specs.Refusals.{accepted}
 use Rattle.rules.specs.declared.Dims.{Dims}
 use Rattle.rules.specs.declared.Machine.{Machine}
 use Rattle.rules.specs.declared.Stepped.{Stepped}
-use Rattle.rules.specs.State.{Caches, caches_of, machine_of}
+use Rattle.rules.specs.declared.Caches.{Caches}
+use Rattle.rules.specs.State.{caches_of, machine_of}
 use Rattle.rules.specs.Making.{fresh, make_of}
 use Rattle.rules.specs.Settled.{settled_in}
 use Rattle.rules.specs.Sound.{Sound}
@@ -76,7 +77,7 @@ pub record Agreed (d : Dims) (memory : List ℕ) (xs : List StepAnswer) (m : Mac
   pub opaque_reads : Opaque (events xs) (start memory)
   pub dims : m.dims ≡ d
   pub sound : Sound m.dims (caches_of m)
-  pub values : Values m.memory
+  pub values : Values m.caches.memory
   pub settled_value : (w : ℕ) → settled_in m.dims w (caches_of m) ≡ (after_events (events xs) (start memory)).val w
 
 module _ (d : Dims) (memory : List ℕ) (values : Values memory) (ok : (make_of d memory).refusal ≡ accepted) (xs : List StepAnswer) (m : Machine)

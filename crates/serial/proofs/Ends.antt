@@ -15,7 +15,8 @@ use Rattle.entry.specs.Packing.{InRange}
 use Rattle.entry.specs.Answer.{no_cycles}
 use Rattle.entry.specs.Entry.{rolled_back, committed}
 use Rattle.rules.specs.declared.Dims.{Dims}
-use Rattle.rules.specs.State.{Caches, caches, copy_at, with_flags, Outcome, gives, TSTATUS, true_flag}
+use Rattle.rules.specs.declared.Caches.{Caches}
+use Rattle.rules.specs.State.{caches, copy_at, with_flags, Outcome, gives, TSTATUS, true_flag}
 use Rattle.rules.specs.Own.{home}
 use Rattle.rules.specs.Rollback.{over_entries, rolled_entries, committed_entries, rollback, begun, ended}
 use Rattle.rules.specs.Ends

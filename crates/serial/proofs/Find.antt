@@ -11,7 +11,8 @@ use Rattle.laws.specs.Search.{first_from, first_has, first_not}
 use Rattle.entry.specs.declared.Entry.{Entry}
 use Rattle.entry.specs.Numbers.{INVALID, DIRTY, NORMAL, TENTATIVE}
 use Rattle.rules.specs.declared.Dims.{Dims}
-use Rattle.rules.specs.State.{Caches, line_at, entry_at}
+use Rattle.rules.specs.declared.Caches.{Caches}
+use Rattle.rules.specs.State.{line_at, entry_at}
 use Rattle.rules.specs.Own.{home, holds, has_entry, find_entry}
 use Rattle.theory.specs.View.{Back, Copy, none, regular, normal, tentative, is_tentative}
 use Rattle.theory.proofs.Cache.{vacant, slot_normal, slot_tentative, blank, filled, regular_on, is_self, is_true, looks, in_line, back_is, back_of}

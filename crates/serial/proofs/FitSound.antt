@@ -13,7 +13,8 @@ use Rattle.entry.specs.declared.Entry.{Entry}
 use Rattle.entry.specs.Numbers.{INVALID, RESERVED, DIRTY, NORMAL, BACKUP, TENTATIVE}
 use Rattle.entry.specs.Packing.{no_entry}
 use Rattle.rules.specs.declared.Dims.{Dims}
-use Rattle.rules.specs.State.{Caches, line_at, entry_at, active_place, status_place, false_flag, true_flag}
+use Rattle.rules.specs.declared.Caches.{Caches}
+use Rattle.rules.specs.State.{line_at, entry_at, active_place, status_place, false_flag, true_flag}
 use Rattle.rules.specs.Own.{home}
 use Rattle.rules.specs.Making.{dims_refusal}
 use Rattle.entry.specs.Refusals.{accepted}

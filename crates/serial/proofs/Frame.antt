@@ -15,7 +15,8 @@ use Rattle.entry.specs.declared.Entry.{Entry}
 use Rattle.entry.specs.Numbers.{INVALID, DIRTY}
 use Rattle.entry.specs.Packing.{pack, no_entry, packed_end, InRange, pack_range}
 use Rattle.rules.specs.declared.Dims.{Dims}
-use Rattle.rules.specs.State.{Caches, place, copy_at, with_copy, active_place, status_place, true_flag}
+use Rattle.rules.specs.declared.Caches.{Caches}
+use Rattle.rules.specs.State.{place, copy_at, with_copy, active_place, status_place, true_flag}
 use Rattle.rules.specs.Own.{home}
 use Rattle.rules.specs.Snoop.{written_back}
 use Rattle.serial.specs.Taking.{value_end}

@@ -13,7 +13,8 @@ use Rattle.entry.specs.Answer.{refusal_number, refused_by}
 use Rattle.entry.specs.Refusals.{accepted, not_sound, bad_columns}
 use Rattle.rules.specs.declared.Dims.{Dims}
 use Rattle.rules.specs.declared.Machine.{Machine}
-use Rattle.rules.specs.State.{Caches, caches_of}
+use Rattle.rules.specs.declared.Caches.{Caches}
+use Rattle.rules.specs.State.{caches_of}
 use Rattle.rules.specs.Sound.{Sound}
 use Rattle.rules.specs.SoundTest.{sound_of}
 use Rattle.rules.specs.Step.{take_step, stepped, stepped_of, step_of}

@@ -13,7 +13,8 @@ use Rattle.entry.specs.declared.Entry.{Entry}
 use Rattle.entry.specs.Numbers.{INVALID}
 use Rattle.entry.specs.Packing.{no_entry, InRange, unpack_range}
 use Rattle.rules.specs.declared.Dims.{Dims}
-use Rattle.rules.specs.State.{Caches, line_at, counted}
+use Rattle.rules.specs.declared.Caches.{Caches}
+use Rattle.rules.specs.State.{line_at, counted}
 use Rattle.rules.specs.Own.{home, holds}
 use Rattle.rules.specs.Snoop.{writes, written_back, clear_line}
 use Rattle.rules.specs.Transact.{drop_line}

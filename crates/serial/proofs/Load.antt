@@ -13,7 +13,8 @@ use Rattle.entry.specs.Numbers.{INVALID, VALID, RESERVED, DIRTY, NORMAL, TENTATI
 use Rattle.entry.specs.Packing.{entry, InRange}
 use Rattle.entry.specs.Answer.{no_cycles}
 use Rattle.rules.specs.declared.Dims.{Dims}
-use Rattle.rules.specs.State.{Caches, gives, line_at, entry_at, word_at}
+use Rattle.rules.specs.declared.Caches.{Caches}
+use Rattle.rules.specs.State.{gives, line_at, entry_at, word_at}
 use Rattle.rules.specs.Own.{home, holds, find_entry}
 use Rattle.rules.specs.Rollback.{rollback}
 use Rattle.rules.specs.Snoop.{clear_line, plain_request}

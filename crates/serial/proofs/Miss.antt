@@ -16,7 +16,8 @@ use Rattle.entry.specs.Numbers.{INVALID, VALID, RESERVED, DIRTY, BACKUP, TENTATI
 use Rattle.entry.specs.Packing.{entry, no_entry, InRange}
 use Rattle.entry.specs.Answer.{asked, quiet}
 use Rattle.rules.specs.declared.Dims.{Dims}
-use Rattle.rules.specs.State.{Caches, caches, gives, counted, entry_at, with_copy, with_entry, word_at}
+use Rattle.rules.specs.declared.Caches.{Caches}
+use Rattle.rules.specs.State.{caches, gives, counted, entry_at, with_copy, with_entry, word_at}
 use Rattle.rules.specs.Own.{home, free_slot}
 use Rattle.rules.specs.Rollback.{rollback}
 use Rattle.rules.specs.Snoop.{writes, clear_entry, snoop, refuses}

@@ -12,7 +12,8 @@ use Rattle.entry.specs.declared.Entry.{Entry}
 use Rattle.entry.specs.Numbers.{INVALID, RESERVED, DIRTY, NORMAL, BACKUP, TENTATIVE}
 use Rattle.entry.specs.Packing.{entry, InRange, unpack_range}
 use Rattle.rules.specs.declared.Dims.{Dims}
-use Rattle.rules.specs.State.{Caches, entry_at, with_entry}
+use Rattle.rules.specs.declared.Caches.{Caches}
+use Rattle.rules.specs.State.{entry_at, with_entry}
 use Rattle.rules.specs.Own.{home}
 use Rattle.rules.specs.Snoop.{written_back, clear_entry}
 use Rattle.theory.specs.View.{LineState, valid, reserved, dirty, bare, backup, normal, tentative, dried}

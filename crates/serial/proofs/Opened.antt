@@ -15,7 +15,8 @@ use Rattle.entry.specs.Numbers.{NORMAL, BACKUP, TENTATIVE}
 use Rattle.entry.specs.Packing.{entry, no_entry, pack}
 use Rattle.entry.specs.Entry.{with_tag, with_state}
 use Rattle.rules.specs.declared.Dims.{Dims}
-use Rattle.rules.specs.State.{Caches, caches, place, entry_at, with_copy, counted}
+use Rattle.rules.specs.declared.Caches.{Caches}
+use Rattle.rules.specs.State.{caches, place, entry_at, with_copy, counted}
 use Rattle.rules.specs.Own.{free_slot}
 use Rattle.rules.specs.Snoop.{writes, written_back}
 use Rattle.rules.specs.Transact.{open_normal}

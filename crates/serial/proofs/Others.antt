@@ -12,7 +12,8 @@ use Rattle.laws.specs.Search.{first_from, first_has, first_not}
 use Rattle.entry.specs.Numbers.{RESERVED, BACKUP, TENTATIVE}
 use Rattle.entry.specs.Entry.{rolled_back, shares, takes}
 use Rattle.rules.specs.declared.Dims.{Dims}
-use Rattle.rules.specs.State.{Caches, entry_at, line_at}
+use Rattle.rules.specs.declared.Caches.{Caches}
+use Rattle.rules.specs.State.{entry_at, line_at}
 use Rattle.rules.specs.Own.{find_entry}
 use Rattle.rules.specs.Rollback.{rolled_entries, rollback}
 use Rattle.rules.specs.Snoop.{opposes, other_opposes, first_opposing, refuses, roll_one, roll_others}

@@ -14,7 +14,8 @@ use Rattle.entry.specs.Numbers.{INVALID, NORMAL, TENTATIVE, READ, RFO, WRITE, T_
 use Rattle.entry.specs.Packing.{unpack_range}
 use Rattle.entry.specs.Entry.{snooped}
 use Rattle.rules.specs.declared.Dims.{Dims}
-use Rattle.rules.specs.State.{Caches, line_at, entry_at}
+use Rattle.rules.specs.declared.Caches.{Caches}
+use Rattle.rules.specs.State.{line_at, entry_at}
 use Rattle.rules.specs.Own.{home, holds, has_live, live_entry}
 use Rattle.rules.specs.Snoop.{written_back, snoop_line, snoop_entry, snoop_one, snoop, refuses, roll_others, plain_request}
 use Rattle.theory.specs.View.{Copy, none, regular, normal, tentative}

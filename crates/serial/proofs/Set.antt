@@ -14,7 +14,8 @@ use Rattle.entry.specs.declared.Entry.{Entry}
 use Rattle.entry.specs.Numbers.{RESERVED, DIRTY}
 use Rattle.entry.specs.Packing.{InRange}
 use Rattle.rules.specs.declared.Dims.{Dims}
-use Rattle.rules.specs.State.{Caches, caches, with_copy, word_at}
+use Rattle.rules.specs.declared.Caches.{Caches}
+use Rattle.rules.specs.State.{caches, with_copy, word_at}
 use Rattle.rules.specs.Own.{home}
 use Rattle.rules.specs.Snoop.{written_back}
 use Rattle.theory.specs.View.{valid, reserved, wrote}

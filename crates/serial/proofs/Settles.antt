@@ -12,7 +12,8 @@ use Rattle.laws.specs.Search.{first_from, first_has, first_not}
 use Rattle.entry.specs.declared.Entry.{Entry}
 use Rattle.entry.specs.Numbers.{INVALID, DIRTY, NORMAL, BACKUP}
 use Rattle.rules.specs.declared.Dims.{Dims}
-use Rattle.rules.specs.State.{Caches, line_at, entry_at, word_at}
+use Rattle.rules.specs.declared.Caches.{Caches}
+use Rattle.rules.specs.State.{line_at, entry_at, word_at}
 use Rattle.rules.specs.Own.{home, holds}
 use Rattle.rules.specs.Settled.{is_settling, has_settling, settling_entry, settles, settler, settled_in}
 use Rattle.rules.specs.Settled

@@ -15,7 +15,8 @@ use Rattle.entry.specs.declared.Entry.{Entry}
 use Rattle.entry.specs.Numbers.{INVALID, NORMAL, BACKUP, TENTATIVE}
 use Rattle.entry.specs.Packing.{no_entry, unpack_range}
 use Rattle.rules.specs.declared.Dims.{Dims}
-use Rattle.rules.specs.State.{Caches, entry_at, word_at}
+use Rattle.rules.specs.declared.Caches.{Caches}
+use Rattle.rules.specs.State.{entry_at, word_at}
 use Rattle.rules.specs.Own.{home, is_free, lowest, free_slot}
 use Rattle.rules.specs.Snoop.{written_back, clear_entry}
 use Rattle.theory.specs.View.{wrote}

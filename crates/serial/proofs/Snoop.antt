@@ -13,7 +13,8 @@ use Rattle.entry.specs.Numbers.{INVALID, VALID, RESERVED, DIRTY, NORMAL, TENTATI
 use Rattle.entry.specs.Packing.{no_entry, InRange, same_entry}
 use Rattle.entry.specs.Entry.{with_state, reserved_or_dirty, shared, snooped, takes}
 use Rattle.rules.specs.declared.Dims.{Dims}
-use Rattle.rules.specs.State.{Caches, line_at, entry_at, word_at}
+use Rattle.rules.specs.declared.Caches.{Caches}
+use Rattle.rules.specs.State.{line_at, entry_at, word_at}
 use Rattle.rules.specs.Own.{home, holds}
 use Rattle.rules.specs.Snoop.{written_back}
 use Rattle.theory.specs.View.{valid, Copy, none, regular, normal, tentative, wrote, View}

@@ -10,7 +10,8 @@ use Rattle.entry.specs.declared.Entry.{Entry}
 use Rattle.entry.specs.Numbers.{DIRTY}
 use Rattle.entry.specs.Packing.{InRange, unpack_range}
 use Rattle.rules.specs.declared.Dims.{Dims}
-use Rattle.rules.specs.State.{Caches, line_at, entry_at, word_at}
+use Rattle.rules.specs.declared.Caches.{Caches}
+use Rattle.rules.specs.State.{line_at, entry_at, word_at}
 use Rattle.rules.specs.Sound.{Sound, HasCopy}
 use Rattle.theory.specs.View.{LineState, bare, backup, none, regular, normal, tentative, above, dirty_state, has, exclusive, is_tentative}
 use Rattle.theory.specs.View

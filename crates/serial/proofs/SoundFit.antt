@@ -12,7 +12,8 @@ use Rattle.laws.specs.Choice.{pick}
 use Rattle.entry.specs.declared.Entry.{Entry}
 use Rattle.entry.specs.Numbers.{INVALID, NORMAL, BACKUP, TENTATIVE}
 use Rattle.rules.specs.declared.Dims.{Dims}
-use Rattle.rules.specs.State.{Caches, line_at, entry_at, word_at}
+use Rattle.rules.specs.declared.Caches.{Caches}
+use Rattle.rules.specs.State.{line_at, entry_at, word_at}
 use Rattle.rules.specs.Own.{home}
 use Rattle.rules.specs.Sound.{Sound, HasCopy}
 use Rattle.theory.proofs.Cache.{vacant, blank, filled, is_self, is_true, main_on, back_on, tentative_on, regular_on, Tidy, not-true}

@@ -13,7 +13,8 @@ use Rattle.entry.specs.Refusals.{accepted}
 use Rattle.entry.specs.Step.{step, uses_word}
 use Rattle.entry.specs.Answer.{no_cycles}
 use Rattle.rules.specs.declared.Dims.{Dims}
-use Rattle.rules.specs.State.{Caches, gives, Counted, entry_at, TSTATUS}
+use Rattle.rules.specs.declared.Caches.{Caches}
+use Rattle.rules.specs.State.{gives, Counted, entry_at, TSTATUS}
 use Rattle.rules.specs.Own.{find_entry}
 use Rattle.rules.specs.Rollback.{begun}
 use Rattle.rules.specs.Transact.{drop_line, hit, open_normal, miss, seek, transact}

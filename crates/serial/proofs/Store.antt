@@ -15,7 +15,8 @@ use Rattle.entry.specs.Numbers.{INVALID, VALID, RESERVED, DIRTY, NORMAL, TENTATI
 use Rattle.entry.specs.Packing.{entry, no_entry, InRange, unpack_range}
 use Rattle.entry.specs.Answer.{quiet}
 use Rattle.rules.specs.declared.Dims.{Dims}
-use Rattle.rules.specs.State.{Caches, gives, counted, line_at, entry_at, with_line}
+use Rattle.rules.specs.declared.Caches.{Caches}
+use Rattle.rules.specs.State.{gives, counted, line_at, entry_at, with_line}
 use Rattle.rules.specs.Own.{home, holds, find_entry}
 use Rattle.rules.specs.Rollback.{rollback}
 use Rattle.rules.specs.Snoop.{writes, written_back, clear_line, clear_entry, plain_request}

@@ -3,7 +3,7 @@ use mathlib.Core.Path.{◌≡◌, refl}
 use Prim.Native.Nat.{ℕ}
 use Rattle.entry.specs.Numbers.{LT, LTX}
 use Rattle.rules.specs.declared.Dims.{Dims}
-use Rattle.rules.specs.State.{Caches}
+use Rattle.rules.specs.declared.Caches.{Caches}
 use Rattle.rules.specs.Transact.{finish, hit, fill, request, miss_at, miss, seek, transact}
 
 module _ (d : Dims) (p w v v' : ℕ) (s : Caches) where

@@ -8,7 +8,8 @@ use Rattle.entry.specs.Numbers.{LOAD, STORE, LT, LTX, ST}
 use Rattle.entry.specs.Step.{step, uses_word, uses_value}
 use Rattle.rules.specs.declared.Dims.{Dims}
 use Rattle.rules.specs.declared.Machine.{Machine}
-use Rattle.rules.specs.State.{Caches, caches_of, Outcome}
+use Rattle.rules.specs.declared.Caches.{Caches}
+use Rattle.rules.specs.State.{caches_of, Outcome}
 use Rattle.rules.specs.Step.{operands_refusal, narrowed, take_step, step_of}
 use Rattle.serial.proofs.Storeless.{lt_unused, ltx_unused}
 

@@ -6,7 +6,7 @@ use Rattle.entry.specs.Answer.{refusal_number}
 use Rattle.entry.specs.Refusals.{accepted}
 use Rattle.rules.specs.declared.Dims.{Dims}
 use Rattle.rules.specs.declared.Machine.{Machine}
-use Rattle.rules.specs.State.{Caches}
+use Rattle.rules.specs.declared.Caches.{Caches}
 use Rattle.rules.specs.Sound.{Sound}
 use Rattle.rules.specs.Step.{step_of}
 use Rattle.theory.specs.Event.{Event}

@@ -14,7 +14,8 @@ use Rattle.laws.specs.Fold.{fold_range}
 use Rattle.laws.specs.Places.{apply_at, apply_from}
 use Rattle.entry.specs.Entry.{rolled_back}
 use Rattle.rules.specs.declared.Dims.{Dims}
-use Rattle.rules.specs.State.{Caches, place, line_at}
+use Rattle.rules.specs.declared.Caches.{Caches}
+use Rattle.rules.specs.State.{place, line_at}
 use Rattle.rules.specs.Own.{home, holds, live_entry}
 use Rattle.rules.specs.Rollback.{repacked, rolled_entries, rollback}
 use Rattle.rules.specs.Snoop.{snoop_line, snoop_entry, snoop_one, snoop, other_opposes, roll_one, roll_others, plain_request}

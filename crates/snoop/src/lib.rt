@@ -1,156 +1,127 @@
-// What a request of processor p does to the others. Each other's entries are searched once: what deciding on the request finds is noted, and
-// the snooping starts from there.
+// What a request of processor p does to the others. Each other's entries are searched once: what deciding on the request finds is
+// noted, and the snooping starts from there.
+//
+// At most 8 processors have places of their own, so that a turn of one leaves what was found of another. More are never made; there one's
+// places are another's too, and nothing found lasts until a later turn.
 
 #![tactic(auto)]
 
-mod many;
 mod other;
 
-ghost use Rattle.std.specs.Prelude.{◌≡◌, List, ℕ, ◌≤◌, leb, length};
+ghost use Rattle.std.specs.Prelude.{◌≡◌, false, ◌≤◌, ◌<◌, None, get_or, length};
 ghost use Rattle.laws.specs.Choice.{pick};
-ghost use Rattle.rules.specs.State.{caches};
-ghost use Rattle.rules.specs.Snoop.{snoop, first_opposing, refuses, plain_request};
-ghost use Rattle.snoop.specs.Firsts.{IsNoted};
-ghost use Rattle.rules.specs.Lent.{lent, returned};
+ghost use Rattle.entry.specs.Kinds.{cycle_number};
+ghost use Rattle.rules.specs.Snoop.{snoop, refuses, roll_others, plain_request};
+ghost use Rattle.snoop.specs.Firsts.{first_found, IsNoted};
 
-use rules::{Copies, Dims, Flags, Memory};
+use crate::other::Request;
+use entry::numbers::Cycle;
+use rules::{Caches, Dims};
 
-// A place for each processor.
-type Firsts = [usize; 8];
+// Where each processor's first entry stands that takes part.
+type Firsts = [Option<usize>; 8];
 
-// Whether every processor has places of its own: what a turn does to one leaves what was found of another.
-fn own_places(d: Dims) -> bool
-    ensures { result ≡ leb d.processors 8 }
-{
-    d.processors <= 8
-}
-
-// The first other processor that the request meets opposed. Of every one before it the first entry is noted.
-fn first_opposing(
-    entries: &Copies,
-    firsts: &mut Firsts,
-    d: Dims,
-    p: usize,
-    word: u8,
-    cycle: u8,
-) -> usize
-    requires { length firsts.old ≡ 8 }
-    ensures value { result ≡ first_opposing d p word cycle entries.now }
-    ensures noted { IsNoted d p word firsts.new entries.now result }
-{
-    let n = d.processors;
-    let mut q: usize = 0;
-    let opposing = loop {
-        if q >= n {
-            break n;
+impl Request {
+    // Whether another processor refuses the request. Where none does, the first entry of each is noted.
+    #[tactic(auto, unfolding(rules::specs::Snoop::first_opposing, rules::specs::Snoop::refuses), using(crate::proofs::Turns::searched))]
+    fn is_refused(&self, c: &Caches, firsts: &mut Firsts) -> bool
+        requires { length firsts.old ≡ 8 }
+        ensures value { let x = self.now in result ≡ refuses x.dims x.p x.word (cycle_number x.cycle) c.now.entries }
+        ensures noted { let x = self.now in result ≡ false → IsNoted x.dims x.p x.word firsts.new c.now.entries x.dims.processors }
+    {
+        for q in 0..self.dims.processors {
+            let first = self.first_of(c, q);
+            if self.opposes_from(c, q, first) {
+                return true;
+            }
+            firsts[q % 8] = first;
         }
-        let first = other::first_of(entries, d.entries, p, word, q);
-        let j = q % 8;
-        firsts[j] = first;
-        if other::opposing_from(entries, d.entries, p, word, cycle, q, first) {
-            break q;
-        }
-        q += 1;
-    };
-    opposing
-}
-
-fn snoop_noted(
-    memory: &mut Memory,
-    lines: &mut Copies,
-    entries: &mut Copies,
-    firsts: &Firsts,
-    d: Dims,
-    p: usize,
-    word: u8,
-    cycle: u8,
-)
-    requires processors_bound { d.processors ≤ 8 }
-    requires noted { IsNoted d p word firsts.now entries.old d.processors }
-    ensures { (f : List ℕ) → caches memory.new lines.new entries.new f ≡
-        snoop d p word cycle (caches memory.old lines.old entries.old f) }
-{
-    let i = caches::home(d, word);
-    let n = d.processors;
-    let mut q: usize = 0;
-    while q < n {
-        let first = firsts[q];
-        other::snoop_at(
-            memory, lines, entries, d.entries, i, p, word, cycle, q, first,
-        );
-        q += 1;
+        false
     }
-}
 
-// Nobody's rollback meets what another's snooping leaves, so that each snoops at once.
-fn roll_and_snoop(
-    memory: &mut Memory,
-    lines: &mut Copies,
-    entries: &mut Copies,
-    flags: &mut Flags,
-    d: Dims,
-    p: usize,
-    word: u8,
-    cycle: u8,
-)
-    requires { d.processors ≤ 8 }
-    ensures { returned memory lines entries flags ≡ plain_request d p word cycle (lent memory lines entries flags) }
-{
-    let i = caches::home(d, word);
-    let n = d.processors;
-    let mut q: usize = 0;
-    while q < n {
-        other::roll_and_snoop_one(
-            memory, lines, entries, flags, d.entries, i, p, word, cycle, q,
-        );
-        q += 1;
+    fn noted_or_found(&self, c: &Caches, firsts: &Firsts, q: usize) -> Option<usize>
+        requires noted { let x = self.now in
+            x.dims.processors ≤ 8 → get_or firsts.now q None ≡ first_found x.dims.entries x.p x.word c.now.entries q }
+        requires q_lt_processors { q < self.now.dims.processors }
+        ensures { let x = self.now in result ≡ first_found x.dims.entries x.p x.word c.now.entries q }
+    {
+        if self.dims.processors <= 8 {
+            return firsts[q];
+        }
+        self.first_of(c, q)
+    }
+
+    #[tactic(auto, unfolding(rules::specs::Snoop::snoop), using(crate::proofs::Turns::turns, crate::proofs::Apart::snooped_left))]
+    fn snoop(&self, c: &mut Caches, firsts: &Firsts)
+        requires { let x = self.now in IsNoted x.dims x.p x.word firsts.now c.old.entries x.dims.processors }
+        ensures { let x = self.now in c.new ≡ snoop x.dims x.p x.word (cycle_number x.cycle) c.old }
+    {
+        let home = caches::home(self.dims, self.word);
+        for q in 0..self.dims.processors {
+            let first = self.noted_or_found(c, firsts, q);
+            self.snoop_one(c, home, q, first);
+        }
+    }
+
+    // Every other processor that opposes the request is rolled back.
+    #[tactic(auto, unfolding(rules::specs::Snoop::roll_others), using(crate::proofs::Turns::turns))]
+    fn roll_others(&self, c: &mut Caches)
+        ensures { let x = self.now in c.new ≡ roll_others x.dims x.p x.word (cycle_number x.cycle) c.old }
+    {
+        for q in 0..self.dims.processors {
+            self.roll_one(c, q);
+        }
+    }
+
+    // Nobody's rollback meets what another's snooping leaves, so that each snoops at once.
+    // Kept beside roll_others and snoop for its speed: by those two, the second over noted places, requests took 1.3 times as long.
+    #[tactic(auto, using(crate::proofs::Turns::turns, crate::proofs::Together::plain_together))]
+    fn roll_and_snoop(&self, c: &mut Caches)
+        requires { self.now.dims.processors ≤ 8 }
+        ensures { let x = self.now in c.new ≡ plain_request x.dims x.p x.word (cycle_number x.cycle) c.old }
+    {
+        let home = caches::home(self.dims, self.word);
+        for q in 0..self.dims.processors {
+            let first = self.roll_one(c, q);
+            self.snoop_one(c, home, q, first);
+        }
     }
 }
 
 // Answers whether another processor refuses the request of LT, LTX or ST. Where none does, the others have snooped it.
-pub fn request(
-    memory: &mut Memory,
-    lines: &mut Copies,
-    entries: &mut Copies,
-    d: Dims,
-    p: usize,
-    word: u8,
-    cycle: u8,
-) -> bool
-    ensures value { result ≡ refuses d p word cycle entries.old }
-    ensures by_index { (f : List ℕ) → caches memory.new lines.new entries.new f ≡
-        pick result (caches memory.old lines.old entries.old f)
-        (snoop d p word cycle (caches memory.old lines.old entries.old f)) }
+pub fn request(c: &mut Caches, d: Dims, p: usize, word: u8, cycle: Cycle) -> bool
+    ensures value { result ≡ refuses d p word (cycle_number cycle) c.old.entries }
+    ensures left { c.new ≡ pick result c.old (snoop d p word (cycle_number cycle) c.old) }
 {
-    let mut firsts: Firsts = [0; 8];
-    let q = first_opposing(entries, &mut firsts, d, p, word, cycle);
-    if q < d.processors {
+    let r = Request {
+        dims: d,
+        p,
+        word,
+        cycle,
+    };
+    let mut firsts: Firsts = [None; 8];
+    if r.is_refused(c, &mut firsts) {
         return true;
     }
-    if own_places(d) {
-        snoop_noted(memory, lines, entries, &firsts, d, p, word, cycle);
-        return false;
-    }
-    many::snoop(memory, lines, entries, d, p, word, cycle);
+    r.snoop(c, &firsts);
     false
 }
 
 // The cycle of a plain access, which nobody refuses.
-pub fn plain_request(
-    memory: &mut Memory,
-    lines: &mut Copies,
-    entries: &mut Copies,
-    flags: &mut Flags,
-    d: Dims,
-    p: usize,
-    word: u8,
-    cycle: u8,
-)
-    ensures { returned memory lines entries flags ≡ plain_request d p word cycle (lent memory lines entries flags) }
+#[tactic(auto, unfolding(rules::specs::Snoop::plain_request))]
+pub fn plain_request(c: &mut Caches, d: Dims, p: usize, word: u8, cycle: Cycle)
+    ensures { c.new ≡ plain_request d p word (cycle_number cycle) c.old }
 {
-    if own_places(d) {
-        roll_and_snoop(memory, lines, entries, flags, d, p, word, cycle);
+    let r = Request {
+        dims: d,
+        p,
+        word,
+        cycle,
+    };
+    if d.processors <= 8 {
+        r.roll_and_snoop(c);
         return;
     }
-    many::plain_request(memory, lines, entries, flags, d, p, word, cycle);
+    r.roll_others(c);
+    r.snoop(c, &[None; 8]);
 }

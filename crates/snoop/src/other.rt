@@ -1,237 +1,120 @@
-// What one other processor, q, does. Of the dimensions this needs n alone, the number of entries.
+// What one other processor, q, does at a request.
 
-ghost use Rattle.std.specs.Prelude.{◌≡◌, List, ℕ, ◌<◌};
+ghost use Rattle.std.specs.Prelude.{◌≡◌, ◌≢◌};
 ghost use Rattle.laws.specs.Choice.{either};
-ghost use Rattle.entry.specs.Entry.{reserved_or_dirty, takes, snooped};
-ghost use Rattle.rules.specs.declared.Dims.{Dims};
-ghost use Rattle.rules.specs.State.{caches, copy_at, with_copy};
+ghost use Rattle.entry.specs.Entry.{reserved_or_dirty, takes};
+ghost use Rattle.entry.specs.Kinds.{cycle_number};
 ghost use Rattle.rules.specs.Own.{live_entry};
-ghost use Rattle.rules.specs.Snoop.{written_back, snoop_line, snoop_entry, snoop_one, opposes, other_opposes, roll_one};
-ghost use Rattle.snoop.specs.Firsts.{first_of};
-ghost use Rattle.rules.specs.Lent.{lent, returned};
+ghost use Rattle.rules.specs.Snoop.{snoop_line, snoop_entry, snoop_one, opposes, other_opposes, roll_one};
+ghost use Rattle.caches.specs.Own.{below};
+ghost use Rattle.snoop.specs.Firsts.{first_found};
 
 use entry::Entry;
-use entry::numbers::{READ, RESERVED, RFO, T_READ, T_RFO, TENTATIVE, WRITE};
-use rules::{Copies, Flags, Memory, place};
+use entry::numbers::{Cycle, Tag};
+use rules::{Caches, Dims};
 
-pub(crate) fn first_of(entries: &Copies, n: usize, p: usize, word: u8, q: usize) -> usize
-    ensures { result ≡ first_of n p word entries.now q }
-{
-    if q == p {
-        return n;
-    }
-    caches::live_entry(entries, q, n, word)
+// Processor p's request of a word.
+#[derive(Clone, Copy)]
+pub(crate) struct Request {
+    pub(crate) dims: Dims,
+    pub(crate) p: usize,
+    pub(crate) word: u8,
+    pub(crate) cycle: Cycle,
 }
 
-// Of lines or of entries: a copy that takes part.
-fn snoop_copy(memory: &mut Memory, copies: &mut Copies, cycle: u8, q: usize, i: usize)
-    ensures { (memory.new ≡ written_back memory.old (copy_at copies.old q i)) ×
-        (copies.new ≡ with_copy copies.old q i (snooped cycle (copy_at copies.old q i))) }
-{
-    let j = place(q, i);
-    let e = Entry::unpack(copies[j]);
-    let w = caches::write_back(memory, e);
-    let f = e.snooped(cycle);
-    copies[j] = f.pack();
-}
+impl Request {
+    // The first entry of q that takes part; p itself has none.
+    #[tactic(auto, unfolding(crate::specs::Firsts::first_of))]
+    pub(crate) fn first_of(&self, c: &Caches, q: usize) -> Option<usize>
+        ensures { let x = self.now in result ≡ first_found x.dims.entries x.p x.word c.now.entries q }
+    {
+        if q == self.p {
+            return None;
+        }
+        caches::live_entry(c, self.dims, q, self.word)
+    }
 
-pub(crate) fn snoop_line(
-    memory: &mut Memory,
-    lines: &mut Copies,
-    i: usize,
-    word: u8,
-    cycle: u8,
-    q: usize,
-)
-    ensures { (e f : List ℕ) → caches memory.new lines.new e f ≡
-        snoop_line i word cycle q (caches memory.old lines.old e f) }
-{
-    let j = place(q, i);
-    let e = Entry::unpack(lines[j]);
-    if caches::holds(e, word) {
-        snoop_copy(memory, lines, cycle, q, i);
+    // Whether a tentative copy of the word stands against the request.
+    fn is_against(&self, e: Entry) -> bool
+        ensures { result ≡ either (takes (cycle_number self.now.cycle)) (reserved_or_dirty e.state) }
+    {
+        self.cycle.takes() || e.state.is_reserved_or_dirty()
     }
-}
 
-pub(crate) fn snoop_entry(
-    memory: &mut Memory,
-    entries: &mut Copies,
-    n: usize,
-    word: u8,
-    cycle: u8,
-    q: usize,
-    i: usize,
-)
-    requires { i ≡ live_entry entries.old q n word }
-    ensures { (d : Dims) → d.entries ≡ n → (l f : List ℕ) → caches memory.new l entries.new f ≡
-        snoop_entry d word cycle q (caches memory.old l entries.old f) }
-{
-    if i < n {
-        snoop_copy(memory, entries, cycle, q, i);
+    #[tactic(auto, unfolding(rules::specs::Snoop::opposes))]
+    fn opposes(&self, c: &Caches, q: usize) -> bool
+        ensures { let x = self.now in result ≡ opposes x.dims x.word (cycle_number x.cycle) q c.now.entries }
+    {
+        match caches::find_tentative(c, self.dims, q, self.word) {
+            Some(i) => self.is_against(c.entry_at(q, i)),
+            None => false,
+        }
     }
-}
 
-pub(crate) fn snoop_at(
-    memory: &mut Memory,
-    lines: &mut Copies,
-    entries: &mut Copies,
-    n: usize,
-    i: usize,
-    p: usize,
-    word: u8,
-    cycle: u8,
-    q: usize,
-    first: usize,
-)
-    requires { first ≡ first_of n p word entries.old q }
-    ensures { (d : Dims) → d.entries ≡ n → (f : List ℕ) → caches memory.new lines.new entries.new f ≡
-        snoop_one d i p word cycle q (caches memory.old lines.old entries.old f) }
-{
-    if q == p {
-        return;
+    // No tentative entry stands before the first NORMAL or tentative one. Behind a NORMAL one there is none in a sound state.
+    #[tactic(auto, using(crate::proofs::Firsts::none_opposes, crate::proofs::Firsts::some_opposes, crate::proofs::Firsts::first_opposes))]
+    pub(crate) fn opposes_from(&self, c: &Caches, q: usize, first: Option<usize>) -> bool
+        requires { let x = self.now in first ≡ first_found x.dims.entries x.p x.word c.now.entries q }
+        ensures { let x = self.now in result ≡ other_opposes x.dims x.p x.word (cycle_number x.cycle) c.now.entries q }
+    {
+        let Some(i) = first else {
+            return false;
+        };
+        let e = c.entry_at(q, i);
+        if e.tag != Tag::Tentative {
+            return self.opposes(c, q);
+        }
+        self.is_against(e)
     }
-    snoop_line(memory, lines, i, word, cycle, q);
-    snoop_entry(memory, entries, n, word, cycle, q, first);
-}
 
-// Whether the cycle leaves no other copy.
-fn taking(cycle: u8) -> bool
-    ensures { result ≡ takes cycle }
-{
-    match cycle {
-        READ => false,
-        RFO => true,
-        WRITE => true,
-        T_READ => false,
-        T_RFO => true,
-        5..=255 => false,
+    // Answers where q's first entry stands afterwards.
+    #[tactic(auto, unfolding(rules::specs::Snoop::roll_one))]
+    pub(crate) fn roll_one(&self, c: &mut Caches, q: usize) -> Option<usize>
+        ensures rolled { let x = self.now in c.new ≡ roll_one x.dims x.p x.word (cycle_number x.cycle) q c.old }
+        ensures value { let x = self.now in result ≡ first_found x.dims.entries x.p x.word c.new.entries q }
+    {
+        let first = self.first_of(c, q);
+        if self.opposes_from(c, q, first) {
+            caches::rollback(c, self.dims, q);
+            return self.first_of(c, q);
+        }
+        first
     }
-}
 
-// Whether a tentative copy of the word stands against the cycle.
-fn against(e: Entry, cycle: u8) -> bool
-    ensures { result ≡ either (takes cycle) (reserved_or_dirty e.state) }
-{
-    if taking(cycle) {
-        return true;
+    #[tactic(auto, unfolding(rules::specs::Snoop::snoop_line))]
+    fn snoop_line(&self, c: &mut Caches, home: usize, q: usize)
+        ensures { c.new ≡ snoop_line home self.now.word (cycle_number self.now.cycle) q c.old }
+    {
+        let e = c.line_at(q, home);
+        if caches::holds(e, self.word) {
+            caches::write_back(c, e);
+            c.put_line(q, home, e.snooped(self.cycle));
+        }
     }
-    RESERVED <= e.state
-}
 
-fn opposing(entries: &Copies, n: usize, word: u8, cycle: u8, q: usize) -> bool
-    ensures { (d : Dims) → d.entries ≡ n → result ≡ opposes d word cycle q entries.now }
-{
-    let i = caches::find_tentative(entries, q, n, word);
-    if i >= n {
-        return false;
+    #[tactic(auto, unfolding(rules::specs::Snoop::snoop_entry))]
+    fn snoop_entry(&self, c: &mut Caches, q: usize, first: Option<usize>)
+        requires { let x = self.now in first ≡ below x.dims.entries (live_entry c.old.entries q x.dims.entries x.word) }
+        ensures { let x = self.now in c.new ≡ snoop_entry x.dims x.word (cycle_number x.cycle) q c.old }
+    {
+        if let Some(i) = first {
+            let e = c.entry_at(q, i);
+            caches::write_back(c, e);
+            c.put_entry(q, i, e.snooped(self.cycle));
+        }
     }
-    let j = place(q, i);
-    let e = Entry::unpack(entries[j]);
-    against(e, cycle)
-}
 
-pub(crate) fn other_opposing(
-    entries: &Copies,
-    n: usize,
-    p: usize,
-    word: u8,
-    cycle: u8,
-    q: usize,
-) -> bool
-    ensures { (d : Dims) → d.entries ≡ n → result ≡ other_opposes d p word cycle entries.now q }
-{
-    if q == p {
-        return false;
+    // Written out in both loops that call it: as a call, requests took 1.2 times as long.
+    #[tactic(auto, unfolding(rules::specs::Snoop::snoop_one, crate::specs::Firsts::first_of), using(crate::proofs::Apart::line_entries))]
+    #[inline]
+    pub(crate) fn snoop_one(&self, c: &mut Caches, home: usize, q: usize, first: Option<usize>)
+        requires { let x = self.now in first ≡ first_found x.dims.entries x.p x.word c.old.entries q }
+        ensures { let x = self.now in c.new ≡ snoop_one x.dims home x.p x.word (cycle_number x.cycle) q c.old }
+    {
+        if q == self.p {
+            return;
+        }
+        self.snoop_line(c, home, q);
+        self.snoop_entry(c, q, first);
     }
-    opposing(entries, n, word, cycle, q)
-}
-
-// No tentative entry stands before the first NORMAL or tentative one. Behind a NORMAL one there is none in a sound state.
-fn opposing_at(
-    entries: &Copies,
-    n: usize,
-    p: usize,
-    word: u8,
-    cycle: u8,
-    q: usize,
-    first: usize,
-) -> bool
-    requires first_value { first ≡ first_of n p word entries.now q }
-    requires first_lt_n { first < n }
-    ensures { (d : Dims) → d.entries ≡ n → result ≡ other_opposes d p word cycle entries.now q }
-{
-    let j = place(q, first);
-    let e = Entry::unpack(entries[j]);
-    if e.tag != TENTATIVE {
-        return other_opposing(entries, n, p, word, cycle, q);
-    }
-    against(e, cycle)
-}
-
-pub(crate) fn opposing_from(
-    entries: &Copies,
-    n: usize,
-    p: usize,
-    word: u8,
-    cycle: u8,
-    q: usize,
-    first: usize,
-) -> bool
-    requires { first ≡ first_of n p word entries.now q }
-    ensures { (d : Dims) → d.entries ≡ n → result ≡ other_opposes d p word cycle entries.now q }
-{
-    if first >= n {
-        return false;
-    }
-    opposing_at(entries, n, p, word, cycle, q, first)
-}
-
-// Answers where q's first entry stands afterwards.
-fn roll_one(
-    entries: &mut Copies,
-    flags: &mut Flags,
-    n: usize,
-    p: usize,
-    word: u8,
-    cycle: u8,
-    q: usize,
-) -> usize
-    ensures flags_value { (d : Dims) → d.entries ≡ n → (m l : List ℕ) → caches m l entries.new flags.new ≡
-        roll_one d p word cycle q (caches m l entries.old flags.old) }
-    ensures value { result ≡ first_of n p word entries.new q }
-{
-    let first = first_of(entries, n, p, word, q);
-    if first >= n {
-        return first;
-    }
-    if opposing_at(entries, n, p, word, cycle, q, first) {
-        caches::rollback(entries, flags, q, n);
-        return first_of(entries, n, p, word, q);
-    }
-    first
-}
-
-// Like snoop_at it calls snoop_line and snoop_entry itself: these are small enough for the compiler to write out in each loop, which it does
-// not do with a function of both.
-pub(crate) fn roll_and_snoop_one(
-    memory: &mut Memory,
-    lines: &mut Copies,
-    entries: &mut Copies,
-    flags: &mut Flags,
-    n: usize,
-    i: usize,
-    p: usize,
-    word: u8,
-    cycle: u8,
-    q: usize,
-)
-    ensures { (d : Dims) → d.entries ≡ n → returned memory lines entries flags ≡
-        snoop_one d i p word cycle q (roll_one d p word cycle q (lent memory lines entries flags)) }
-{
-    if q == p {
-        return;
-    }
-    let surviving = roll_one(entries, flags, n, p, word, cycle, q);
-    snoop_line(memory, lines, i, word, cycle, q);
-    snoop_entry(memory, entries, n, word, cycle, q, surviving);
 }

@@ -2,7 +2,7 @@
 use mathlib.Core.Path.{◌≡◌}
 use mathlib.Core.Bool.{true}
 use Rattle.rules.specs.declared.Dims.{Dims}
-use Rattle.rules.specs.State.{Caches}
+use Rattle.rules.specs.declared.Caches.{Caches}
 use Rattle.rules.specs.Sound.{Sound}
 use Rattle.rules.specs.SoundTest.{sound_of}
 use Rattle.sound.proofs.Tested.{tested}
@@ -10,7 +10,7 @@ use Rattle.sound.proofs.Holds.{holds}
 use Rattle.sound.proofs.Passed.{passed}
 
 pub true_sound : (d : Dims) (s : Caches) → sound_of d s ≡ true → Sound d s
-true_sound d s t = holds d s ((tested d s).says t)
+true_sound d s t = holds d s ((tested d s).0 t)
 
 pub sound_true : (d : Dims) (s : Caches) → Sound d s → sound_of d s ≡ true
-sound_true d s h = (tested d s).shows (passed d s h)
+sound_true d s h = (tested d s).1 (passed d s h)

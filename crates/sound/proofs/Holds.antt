@@ -12,7 +12,8 @@ use Rattle.entry.specs.declared.Entry.{Entry}
 use Rattle.entry.specs.Numbers.{INVALID, RESERVED, DIRTY, BACKUP, TENTATIVE}
 use Rattle.entry.specs.Packing.{packed_end, unpack, no_entry}
 use Rattle.rules.specs.declared.Dims.{Dims}
-use Rattle.rules.specs.State.{active_flag, status_flag, Caches, place, line_at, entry_at, word_at, active_place, status_place}
+use Rattle.rules.specs.declared.Caches.{Caches}
+use Rattle.rules.specs.State.{active_flag, status_flag, place, line_at, entry_at, word_at, active_place, status_place}
 use Rattle.rules.specs.Sound.{Held, HasCopy, Sound}
 use Rattle.rules.specs.SoundTest.{of_lines, of_entries, marks_of, owners_of, partner_place}
 use Rattle.sound.proofs.Places.{place_in, place_processor, place_slot, place_of}

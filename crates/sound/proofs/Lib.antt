@@ -1,5 +1,4 @@
 pub mod Every
-pub mod Codes
 pub mod Stamp
 pub mod Reflect
 pub mod Places

@@ -12,7 +12,8 @@ use Rattle.entry.specs.declared.Entry.{Entry}
 use Rattle.entry.specs.Numbers.{RESERVED, BACKUP, TENTATIVE}
 use Rattle.entry.specs.Packing.{unpack, unpack_zero}
 use Rattle.rules.specs.declared.Dims.{Dims}
-use Rattle.rules.specs.State.{Caches, place, line_at, entry_at, active_place, status_place}
+use Rattle.rules.specs.declared.Caches.{Caches}
+use Rattle.rules.specs.State.{place, line_at, entry_at, active_place, status_place}
 use Rattle.rules.specs.Sound.{Held, HasCopy, Sound}
 use Rattle.rules.specs.SoundTest.{of_lines, of_entries, mark_key, mark_value, marks_of, owner_of, owners_of, partner_place}
 use Rattle.sound.proofs.Places.{place_in, place_processor, place_slot, each_place}

@@ -1,4 +1,4 @@
--- What the test says of a state, place by place, both ways. Assumes nothing.
+-- What the test decides of a state, place by place. Assumes nothing.
 use mathlib.Core.Path.{◌≡◌, refl}
 use mathlib.Core.Logic.{◌≢◌}
 use mathlib.Core.Bool.{Bool, true, false}
@@ -13,15 +13,16 @@ use Rattle.entry.specs.declared.Entry.{Entry}
 use Rattle.entry.specs.Numbers.{INVALID, DIRTY, BACKUP, TENTATIVE}
 use Rattle.entry.specs.Packing.{packed_end, unpack}
 use Rattle.rules.specs.declared.Dims.{Dims}
-use Rattle.rules.specs.State.{Caches}
+use Rattle.rules.specs.declared.Caches.{Caches}
 use Rattle.rules.specs.Making.{within, dims_refusal}
 use Rattle.entry.specs.Refusals.{accepted}
 use Rattle.rules.specs.Sound.{Lengths}
 use Rattle.rules.specs.SoundTest.{of_lines, of_entries, mark_key, mark_value, marks_of, owner_of, owners_of}
 use Rattle.rules.specs.SoundTest.{copy_ok, is_home, line_ok, flags_up, partner_place, is_partner, backup_ok, entry_ok}
 use Rattle.rules.specs.SoundTest.{lines_ok, entries_ok, flags_ok, memory_ok, copies_ok, sound_of}
-use Rattle.sound.proofs.Reflect.{Iff, eqb_iff, ltb_iff, leb_iff, differ_iff}
-use Rattle.sound.proofs.Reflect.{iff_map, both_then, both_iff, unless_iff, when_iff, below_iff, every_iff}
+use Rattle.std.specs.Bool.{Decides}
+use Rattle.std.proofs.lemmas.Bool.Decides.{Decides-eqb, Decides-ltb, Decides-not, Decides-and, Decides-like}
+use Rattle.sound.proofs.Reflect.{Decides-leb, Decides-both_then, Decides-unless, Decides-when, Decides-below, Decides-every}
 
 -- of the copy e at place j
 pub record CopyFits (memory marks owners : List ℕ) (words kind : ℕ) (e : Entry) (j : ℕ) : Type 0 where
@@ -71,38 +72,32 @@ pub record Tested (d : Dims) (s : Caches) : Type 0 where
       EntryFits s.memory (marks_of s.lines s.entries) (owners_of s.lines s.entries) s.entries s.flags d
       (get_or s.entries j 0) j
 
-partner_iff : (e : Entry) (j : ℕ) (f : Entry) (k : ℕ) → Iff (is_partner e j f k) (PartnerFits e j f k)
-partner_iff e j f k =
-    iff_map
-    (both_iff (eqb_iff (k / 64) (j / 64))
-    (both_iff (eqb_iff f.tag TENTATIVE) (both_iff (eqb_iff f.word e.word) (leb_iff e.state f.state))))
+Decides-partner : (e : Entry) (j : ℕ) (f : Entry) (k : ℕ) → Decides (is_partner e j f k) (PartnerFits e j f k)
+Decides-partner e j f k =
+    Decides-like _
     (λ t. record { processor = t.0; tag = t.1.0; word = t.1.1.0; state = t.1.1.1 })
     (λ f. (f.processor, (f.tag, (f.word, f.state))))
+    (Decides-and _ _ (Decides-eqb (k / 64) (j / 64))
+    (Decides-and _ _ (Decides-eqb f.tag TENTATIVE) (Decides-and _ _ (Decides-eqb f.word e.word) (Decides-leb e.state f.state))))
 
 module _ (memory marks owners : List ℕ) where
-  copy_iff : (words kind : ℕ) (e : Entry) (j : ℕ) →
-      Iff (copy_ok memory marks owners words kind e j) (CopyFits memory marks owners words kind e j)
+  Decides-copy : (words kind : ℕ) (e : Entry) (j : ℕ) →
+      Decides (copy_ok memory marks owners words kind e j) (CopyFits memory marks owners words kind e j)
   unfolding copy_ok
-  copy_iff words kind e j =
-      iff_map
-      (both_iff (ltb_iff e.word words)
-      (both_iff (unless_iff e.state DIRTY (eqb_iff (get_or memory e.word 0) e.«data»))
-      (both_iff (unless_iff (get_or owners e.word 0) 0 (eqb_iff (get_or owners e.word 0) (owner_of j)))
-      (eqb_iff (get_or marks (mark_key e j) 0) (mark_value kind j)))))
+  Decides-copy words kind e j =
+      Decides-like _
       (λ t. record { word = t.0; clean = t.1.0; owner = t.1.1.0; mark = t.1.1.1 })
       (λ f. (f.word, (f.clean, (f.owner, f.mark))))
+      (Decides-and _ _ (Decides-ltb e.word words)
+      (Decides-and _ _ (Decides-unless e.state DIRTY (Decides-eqb (get_or memory e.word 0) e.«data»))
+      (Decides-and _ _ (Decides-unless (get_or owners e.word 0) 0 (Decides-eqb (get_or owners e.word 0) (owner_of j)))
+      (Decides-eqb (get_or marks (mark_key e j) 0) (mark_value kind j)))))
 
-  line_iff : (d : Dims) (x j : ℕ) → Iff (line_ok memory marks owners d x j) (x ≢ 0 → LineFits memory marks owners d x j)
+  Decides-line : (d : Dims) (x j : ℕ) → Decides (line_ok memory marks owners d x j) (x ≢ 0 → LineFits memory marks owners d x j)
   unfolding line_ok is_home
-  line_iff d x j =
-      unless_iff x 0
-      (iff_map
-      (both_iff (ltb_iff (j / 64) d.processors)
-      (both_iff (ltb_iff (j % 64) d.lines)
-      (both_iff (ltb_iff x packed_end)
-      (both_iff (eqb_iff (unpack x).tag INVALID)
-      (both_iff (differ_iff (unpack x).state INVALID)
-      (both_iff (eqb_iff ((unpack x).word % d.lines) (j % 64)) (copy_iff d.words of_lines (unpack x) j)))))))
+  Decides-line d x j =
+      Decides-unless x 0
+      (Decides-like _
       (λ t. record {
         processor = t.0;
         slot = t.1.0;
@@ -112,26 +107,21 @@ module _ (memory marks owners : List ℕ) where
         home = t.1.1.1.1.1.0;
         copy = t.1.1.1.1.1.1;
       })
-      (λ f. (f.processor, (f.slot, (f.code, (f.tag, (f.held, (f.home, f.copy))))))))
+      (λ f. (f.processor, (f.slot, (f.code, (f.tag, (f.held, (f.home, f.copy)))))))
+      (Decides-and _ _ (Decides-ltb (j / 64) d.processors)
+      (Decides-and _ _ (Decides-ltb (j % 64) d.lines)
+      (Decides-and _ _ (Decides-ltb x packed_end)
+      (Decides-and _ _ (Decides-eqb (unpack x).tag INVALID)
+      (Decides-and _ _ (Decides-not _ (Decides-eqb (unpack x).state INVALID))
+      (Decides-and _ _ (Decides-eqb ((unpack x).word % d.lines) (j % 64)) (Decides-copy d.words of_lines (unpack x) j))))))))
 
-  entry_iff : (entries flags : List ℕ) (d : Dims) (x j : ℕ) →
-      Iff (entry_ok memory marks owners entries flags d x j) (x ≢ 0 → EntryFits memory marks owners entries flags d x j)
+  Decides-entry : (entries flags : List ℕ) (d : Dims) (x j : ℕ) →
+      Decides (entry_ok memory marks owners entries flags d x j) (x ≢ 0 → EntryFits memory marks owners entries flags d x j)
   unfolding entry_ok flags_up backup_ok
-  entry_iff entries flags d x j =
+  Decides-entry entries flags d x j =
       let k = partner_place marks (unpack x) j in
-      unless_iff x 0
-      (iff_map
-      (both_iff (ltb_iff (j / 64) d.processors)
-      (both_iff (ltb_iff (j % 64) d.entries)
-      (both_iff (ltb_iff x packed_end)
-      (both_iff (differ_iff (unpack x).tag INVALID)
-      (both_iff (differ_iff (unpack x).state INVALID)
-      (both_iff
-      (when_iff (unpack x).tag TENTATIVE
-      (both_iff (eqb_iff (get_or flags (j / 64 % 8) 0) 1) (eqb_iff (get_or flags (8 + j / 64 % 8) 0) 1)))
-      (both_iff
-      (when_iff (unpack x).tag BACKUP (partner_iff (unpack x) j (unpack (get_or entries k 0)) k))
-      (copy_iff d.words of_entries (unpack x) j))))))))
+      Decides-unless x 0
+      (Decides-like _
       (λ t. record {
         processor = t.0;
         slot = t.1.0;
@@ -142,7 +132,18 @@ module _ (memory marks owners : List ℕ) where
         partner = t.1.1.1.1.1.1.0;
         copy = t.1.1.1.1.1.1.1;
       })
-      (λ f. (f.processor, (f.slot, (f.code, (f.tag, (f.held, (f.up, (f.partner, f.copy)))))))))
+      (λ f. (f.processor, (f.slot, (f.code, (f.tag, (f.held, (f.up, (f.partner, f.copy))))))))
+      (Decides-and _ _ (Decides-ltb (j / 64) d.processors)
+      (Decides-and _ _ (Decides-ltb (j % 64) d.entries)
+      (Decides-and _ _ (Decides-ltb x packed_end)
+      (Decides-and _ _ (Decides-not _ (Decides-eqb (unpack x).tag INVALID))
+      (Decides-and _ _ (Decides-not _ (Decides-eqb (unpack x).state INVALID))
+      (Decides-and _ _
+      (Decides-when (unpack x).tag TENTATIVE
+      (Decides-and _ _ (Decides-eqb (get_or flags (j / 64 % 8) 0) 1) (Decides-eqb (get_or flags (8 + j / 64 % 8) 0) 1)))
+      (Decides-and _ _
+      (Decides-when (unpack x).tag BACKUP (Decides-partner (unpack x) j (unpack (get_or entries k 0)) k))
+      (Decides-copy d.words of_entries (unpack x) j)))))))))
 
 -- dimensions that are not refused leave the words within memory
 pub few_words : (d : Dims) → dims_refusal d ≡ accepted → d.words ≤ 256
@@ -156,24 +157,12 @@ few_words d e =
     passed true false n e = absurd (omega arith)
     passed false b n e = absurd (omega arith)
 
-pub tested : (d : Dims) (s : Caches) → Iff (sound_of d s) (Tested d s)
+pub tested : (d : Dims) (s : Caches) → Decides (sound_of d s) (Tested d s)
 unfolding sound_of flags_ok memory_ok copies_ok lines_ok entries_ok
 tested d s =
     let marks = marks_of s.lines s.entries in
     let owners = owners_of s.lines s.entries in
-    iff_map
-    (both_iff
-    (both_iff (eqb_iff (length s.memory) 256)
-    (both_iff (eqb_iff (length s.lines) 512)
-    (both_iff (eqb_iff (length s.entries) 512) (eqb_iff (length s.flags) 16))))
-    (both_then (eqb_iff (dims_refusal d) accepted)
-    (λ e.
-    both_iff
-    (every_iff 0 16 (omega arith) _ _
-    (λ j. below_iff (j % 8) d.processors (leb_iff (get_or s.flags j 0) 1) (eqb_iff (get_or s.flags j 0) 0)))
-    (both_iff (every_iff d.words 256 (few_words d e) _ _ (λ w. eqb_iff (get_or s.memory w 0) 0))
-    (both_iff (every_iff 0 512 (omega arith) _ _ (λ j. line_iff s.memory marks owners d (get_or s.lines j 0) j))
-    (every_iff 0 512 (omega arith) _ _ (λ j. entry_iff s.memory marks owners s.entries s.flags d (get_or s.entries j 0) j)))))))
+    Decides-like _
     (λ t. record {
       lengths = record { memory = t.0.0; lines = t.0.1.0; entries = t.0.1.1.0; flags = t.0.1.1.1 };
       dimensions = t.1.0;
@@ -189,3 +178,15 @@ tested d s =
         ((λ j a h. f.flags j h), (f.memory, ((λ j a h. f.lines j h), (λ j a h. f.entries j h)))),
       ),
     ))
+    (Decides-and _ _
+    (Decides-and _ _ (Decides-eqb (length s.memory) 256)
+    (Decides-and _ _ (Decides-eqb (length s.lines) 512)
+    (Decides-and _ _ (Decides-eqb (length s.entries) 512) (Decides-eqb (length s.flags) 16))))
+    (Decides-both_then (Decides-eqb (dims_refusal d) accepted)
+    (λ e.
+    Decides-and _ _
+    (Decides-every 0 16 (omega arith) _ _
+    (λ j. Decides-below (j % 8) d.processors (Decides-leb (get_or s.flags j 0) 1) (Decides-eqb (get_or s.flags j 0) 0)))
+    (Decides-and _ _ (Decides-every d.words 256 (few_words d e) _ _ (λ w. Decides-eqb (get_or s.memory w 0) 0))
+    (Decides-and _ _ (Decides-every 0 512 (omega arith) _ _ (λ j. Decides-line s.memory marks owners d (get_or s.lines j 0) j))
+    (Decides-every 0 512 (omega arith) _ _ (λ j. Decides-entry s.memory marks owners s.entries s.flags d (get_or s.entries j 0) j)))))))

@@ -1,53 +1,38 @@
-// What is asked of every copy, of a line or an entry, against memory, the marks and the owners.
+// What is asked of every copy, of a line or an entry.
 
 ghost use Rattle.std.specs.Prelude.{◌≡◌};
-ghost use Rattle.rules.specs.SoundTest.{is_clean, is_owned, is_only, copy_ok};
+ghost use Rattle.rules.specs.SoundTest.{is_clean, copy_ok};
+ghost use Rattle.sound.specs.Kind.{kind_number};
 
-use crate::marks::{Marks, mark_key, mark_value};
-use crate::owners::{Owners, owner_of};
+use crate::notes::Notes;
+use crate::placed::Placed;
 use entry::Entry;
-use entry::numbers::DIRTY;
-use rules::Memory;
+use entry::numbers::State;
+use rules::{Caches, Dims};
 
-pub(crate) fn copy_ok(
-    memory: &Memory,
-    marks: &Marks,
-    owners: &Owners,
-    words: usize,
-    kind: u8,
-    e: Entry,
-    j: usize,
-) -> bool
-    ensures { result ≡ copy_ok memory.now marks.now owners.now words kind e j }
-{
-    let word = e.word as usize;
-    (word < words) & is_clean(memory, e) & is_owned(owners, e, j) & is_only(marks, kind, e, j)
+// What a place is looked at against: all the caches, their dimensions, and the notes taken of them.
+#[derive(Clone, Copy)]
+pub(crate) struct Test<'a> {
+    pub caches: &'a Caches,
+    pub dims: Dims,
+    pub notes: &'a Notes,
 }
 
-fn is_clean(memory: &Memory, e: Entry) -> bool
-    ensures { result ≡ is_clean memory.now e }
-{
-    if e.state == DIRTY {
-        return true;
+impl Test<'_> {
+    #[tactic(auto, unfolding(rules::specs::SoundTest::copy_ok))]
+    pub(crate) fn copy_ok(&self, at: &Placed) -> bool
+        ensures { let c = self.now.caches.now in let n = self.now.notes.now in
+            result ≡ copy_ok c.memory n.marks n.owners self.now.dims.words (kind_number at.now.kind) at.now.copy at.now.place }
+    {
+        (usize::from(at.word()) < self.dims.words)
+            & self.is_clean(at.copy)
+            & self.notes.is_owned(at)
+            & self.notes.is_only(at)
     }
-    let word = e.word as usize;
-    memory[word] == e.data
-}
 
-fn is_owned(owners: &Owners, e: Entry, j: usize) -> bool
-    ensures { result ≡ is_owned owners.now e j }
-{
-    let word = e.word as usize;
-    let owner = owners[word];
-    if owner == 0 {
-        return true;
+    fn is_clean(&self, e: Entry) -> bool
+        ensures { result ≡ is_clean self.now.caches.now.memory e }
+    {
+        e.state == State::Dirty || self.caches.word_at(e.word) == e.data
     }
-    owner == owner_of(j)
-}
-
-fn is_only(marks: &Marks, kind: u8, e: Entry, j: usize) -> bool
-    ensures { result ≡ is_only marks.now kind e j }
-{
-    let k = mark_key(e, j);
-    marks[k] == mark_value(kind, j)
 }

@@ -1,92 +1,65 @@
-// Every transactional entry. Place j is slot j % 64 of processor j / 64.
+// Every transactional entry.
 
 ghost use Rattle.std.specs.Prelude.{◌≡◌};
-ghost use Rattle.rules.specs.SoundTest.{flags_up, is_partner, backup_ok, entry_ok, entries_ok};
+ghost use Rattle.rules.specs.SoundTest.{flags_up, backup_ok, entry_ok, entries_ok};
 
-use crate::copies::copy_ok;
-use crate::marks::{Marks, OF_ENTRIES};
-use crate::owners::Owners;
-use entry::Entry;
-use entry::numbers::{BACKUP, INVALID, TENTATIVE};
-use rules::{Copies, Dims, Flags, Memory};
+use crate::copies::Test;
+use crate::placed::{Kind, Placed};
+use entry::numbers::{State, Tag};
 
-pub(crate) fn entries_ok(
-    memory: &Memory,
-    marks: &Marks,
-    owners: &Owners,
-    flags: &Flags,
-    d: Dims,
-    entries: &Copies,
-) -> bool
-    ensures { result ≡ entries_ok memory.now marks.now owners.now flags.now d entries.now }
-{
-    let mut j: usize = 0;
-    while j < 512 {
-        if !entry_ok(memory, marks, owners, entries, flags, d, entries[j], j) {
-            return false;
+impl Test<'_> {
+    pub(crate) fn entries_ok(&self) -> bool
+        ensures { let c = self.now.caches.now in let n = self.now.notes.now in
+            result ≡ entries_ok c.memory n.marks n.owners c.flags self.now.dims c.entries }
+    {
+        let entries = &self.caches.entries;
+        entries
+            .iter()
+            .enumerate()
+            .all(|(j, x)| self.entry_ok(*x, j))
+    }
+
+    #[tactic(auto, unfolding(rules::specs::SoundTest::entry_ok))]
+    fn entry_ok(&self, x: u64, j: usize) -> bool
+        ensures { let c = self.now.caches.now in let n = self.now.notes.now in
+            result ≡ entry_ok c.memory n.marks n.owners c.entries c.flags self.now.dims x j }
+    {
+        if x == 0 {
+            return true;
         }
-        j += 1;
+        let at = Placed::new(Kind::Entries, x, j);
+        let e = at.copy;
+        (at.processor() < self.dims.processors)
+            & (at.slot() < self.dims.entries)
+            & (e.pack() == x)
+            & (e.tag != Tag::Invalid)
+            & (e.state != State::Invalid)
+            & self.flags_up(&at)
+            & self.backup_ok(&at)
+            & self.copy_ok(&at)
     }
-    true
-}
 
-fn entry_ok(
-    memory: &Memory,
-    marks: &Marks,
-    owners: &Owners,
-    entries: &Copies,
-    flags: &Flags,
-    d: Dims,
-    x: u64,
-    j: usize,
-) -> bool
-    ensures { result ≡ entry_ok memory.now marks.now owners.now entries.now flags.now d x j }
-{
-    if x == 0 {
-        return true;
+    #[tactic(auto, unfolding(rules::specs::SoundTest::flags_up))]
+    fn flags_up(&self, at: &Placed) -> bool
+        ensures { result ≡ flags_up self.now.caches.now.flags at.now.copy at.now.place }
+    {
+        let e = at.copy;
+        let flags = &self.caches.flags;
+        let active = at.processor() % 8;
+        e.tag != Tag::Tentative || (flags[active] == 1) & (flags[8 + active] == 1)
     }
-    let e = Entry::unpack(x);
-    (j / 64 < d.processors)
-        & (j % 64 < d.entries)
-        & (e.pack() == x)
-        & (e.tag != INVALID)
-        & (e.state != INVALID)
-        & flags_up(flags, e, j)
-        & backup_ok(marks, entries, e, j)
-        & copy_ok(memory, marks, owners, d.words, OF_ENTRIES, e, j)
-}
 
-fn flags_up(flags: &Flags, e: Entry, j: usize) -> bool
-    ensures { result ≡ flags_up flags.now e j }
-{
-    if e.tag != TENTATIVE {
-        return true;
+    #[tactic(auto, unfolding(rules::specs::SoundTest::backup_ok))]
+    fn backup_ok(&self, at: &Placed) -> bool
+        ensures { let c = self.now.caches.now in
+            result ≡ backup_ok self.now.notes.now.marks c.entries at.now.copy at.now.place }
+    {
+        let e = at.copy;
+        if e.tag != Tag::Backup {
+            return true;
+        }
+        // Whether the tentative entry stands at the place that is noted is tested, not trusted.
+        let k = self.notes.partner_place(at);
+        at.is_partner(&Placed::new(Kind::Entries, self.caches.entries[k], k))
     }
-    let active = j / 64 % 8;
-    let status = 8 + active;
-    (flags[active] == 1) & (flags[status] == 1)
-}
-
-fn backup_ok(marks: &Marks, entries: &Copies, e: Entry, j: usize) -> bool
-    ensures { result ≡ backup_ok marks.now entries.now e j }
-{
-    if e.tag != BACKUP {
-        return true;
-    }
-    // The mark of the word's other copy names a place; whether its tentative entry stands there is tested, not trusted.
-    let at = j / 64 % 8 * 512 + (e.word as usize);
-    let k = (wide(marks[at]) / 2 + 511) % 512;
-    is_partner(e, j, Entry::unpack(entries[k]), k)
-}
-
-fn is_partner(e: Entry, j: usize, f: Entry, k: usize) -> bool
-    ensures { result ≡ is_partner e j f k }
-{
-    (k / 64 == j / 64) & (f.tag == TENTATIVE) & (f.word == e.word) & (e.state <= f.state)
-}
-
-fn wide(x: u16) -> usize
-    ensures { result ≡ x }
-{
-    x as usize
 }

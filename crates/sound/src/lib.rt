@@ -9,41 +9,42 @@ mod copies;
 pub mod dims;
 mod entries;
 mod lines;
-mod marks;
-mod owners;
+mod notes;
+mod placed;
 
 ghost use Rattle.std.specs.Prelude.{◌≡◌};
-ghost use Rattle.rules.specs.State.{caches};
 ghost use Rattle.rules.specs.SoundTest.{copies_ok, sound_of};
 
-use crate::arrays::{flags_ok, lengths_ok, memory_ok};
+use crate::arrays::{flags_ok, memory_ok};
+use crate::copies::Test;
 use crate::dims::dims_refusal;
-use crate::entries::entries_ok;
-use crate::lines::lines_ok;
-use crate::marks::{Marks, OF_ENTRIES, OF_LINES, mark_all};
-use crate::owners::{Owners, own_all};
-use entry::refusals::ACCEPTED;
-use rules::{Copies, Dims, Flags, Memory};
+use crate::notes::Notes;
+use crate::placed::Kind;
+use rules::{Caches, Dims};
 
-pub fn sound(memory: &Memory, lines: &Copies, entries: &Copies, flags: &Flags, d: Dims) -> bool
-    ensures { result ≡ sound_of d (caches memory.now lines.now entries.now flags.now) }
+// Of the definition's lengths each holds by the array's type.
+pub fn sound(c: &Caches, d: Dims) -> bool
+    ensures { result ≡ sound_of d c.now }
 {
-    lengths_ok(memory, lines, entries, flags)
-        & (dims_refusal(d) == ACCEPTED)
-        & flags_ok(flags, d.processors)
-        & memory_ok(memory, d.words)
-        & copies_ok(memory, lines, entries, flags, d)
+    dims_refusal(d).is_ok()
+        & flags_ok(&c.flags, d.processors)
+        & memory_ok(&c.memory, d.words)
+        & copies_ok(c, d)
 }
 
-fn copies_ok(memory: &Memory, lines: &Copies, entries: &Copies, flags: &Flags, d: Dims) -> bool
-    ensures { result ≡ copies_ok d (caches memory.now lines.now entries.now flags.now) }
+fn copies_ok(c: &Caches, d: Dims) -> bool
+    ensures { result ≡ copies_ok d c.now }
 {
-    let mut marks: Marks = [0; 4096];
-    mark_all(&mut marks, OF_LINES, lines);
-    mark_all(&mut marks, OF_ENTRIES, entries);
-    let mut owners: Owners = [0; 256];
-    own_all(&mut owners, lines);
-    own_all(&mut owners, entries);
-    lines_ok(memory, &marks, &owners, d, lines)
-        & entries_ok(memory, &marks, &owners, flags, d, entries)
+    let mut notes = Notes {
+        marks: [0; 4096],
+        owners: [0; 256],
+    };
+    notes.note_all(Kind::Lines, &c.lines);
+    notes.note_all(Kind::Entries, &c.entries);
+    let test = Test {
+        caches: c,
+        dims: d,
+        notes: &notes,
+    };
+    test.lines_ok() & test.entries_ok()
 }

@@ -1,58 +1,46 @@
-// Every regular line. Place j is slot j % 64 of processor j / 64.
+// Every regular line.
 
-ghost use Rattle.std.specs.Prelude.{◌≡◌};
+ghost use Rattle.std.specs.Prelude.{◌≡◌, ◌%◌};
 ghost use Rattle.rules.specs.SoundTest.{is_home, line_ok, lines_ok};
 
-use crate::copies::copy_ok;
-use crate::marks::{Marks, OF_LINES};
-use crate::owners::Owners;
-use entry::Entry;
-use entry::numbers::INVALID;
-use rules::{Copies, Dims, Memory};
+use crate::copies::Test;
+use crate::placed::{Kind, Placed};
+use entry::numbers::{State, Tag};
 
-pub(crate) fn lines_ok(
-    memory: &Memory,
-    marks: &Marks,
-    owners: &Owners,
-    d: Dims,
-    lines: &Copies,
-) -> bool
-    ensures { result ≡ lines_ok memory.now marks.now owners.now d lines.now }
-{
-    let mut j: usize = 0;
-    while j < 512 {
-        if !line_ok(memory, marks, owners, d, lines[j], j) {
-            return false;
+impl Test<'_> {
+    pub(crate) fn lines_ok(&self) -> bool
+        ensures { let c = self.now.caches.now in let n = self.now.notes.now in
+            result ≡ lines_ok c.memory n.marks n.owners self.now.dims c.lines }
+    {
+        let lines = &self.caches.lines;
+        lines.iter().enumerate().all(|(j, x)| self.line_ok(*x, j))
+    }
+
+    #[tactic(auto, unfolding(rules::specs::SoundTest::line_ok))]
+    fn line_ok(&self, x: u64, j: usize) -> bool
+        ensures { let c = self.now.caches.now in let n = self.now.notes.now in
+            result ≡ line_ok c.memory n.marks n.owners self.now.dims x j }
+    {
+        if x == 0 {
+            return true;
         }
-        j += 1;
+        let at = Placed::new(Kind::Lines, x, j);
+        let e = at.copy;
+        (at.processor() < self.dims.processors)
+            & (at.slot() < self.dims.lines)
+            & (e.pack() == x)
+            & (e.tag == Tag::Invalid)
+            & (e.state != State::Invalid)
+            & self.is_home(&at)
+            & self.copy_ok(&at)
     }
-    true
-}
 
-fn line_ok(memory: &Memory, marks: &Marks, owners: &Owners, d: Dims, x: u64, j: usize) -> bool
-    ensures { result ≡ line_ok memory.now marks.now owners.now d x j }
-{
-    if x == 0 {
-        return true;
+    // The remainder by no lines is the word itself, as in the definition.
+    #[tactic(auto, unfolding(rules::specs::SoundTest::is_home))]
+    fn is_home(&self, at: &Placed) -> bool
+        ensures { result ≡ is_home self.now.dims at.now.copy (at.now.place % 64) }
+    {
+        let word = usize::from(at.word());
+        word.checked_rem(self.dims.lines).unwrap_or(word) == at.slot()
     }
-    let e = Entry::unpack(x);
-    (j / 64 < d.processors)
-        & (j % 64 < d.lines)
-        & (e.pack() == x)
-        & (e.tag == INVALID)
-        & (e.state != INVALID)
-        & is_home(d, e, j % 64)
-        & copy_ok(memory, marks, owners, d.words, OF_LINES, e, j)
-}
-
-// The remainder by no lines is the word itself, as in the definition.
-fn is_home(d: Dims, e: Entry, i: usize) -> bool
-    ensures { result ≡ is_home d e i }
-{
-    let word = e.word as usize;
-    let lines = d.lines;
-    if lines == 0 {
-        return word == i;
-    }
-    word % lines == i
 }

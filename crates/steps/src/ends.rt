@@ -1,66 +1,58 @@
-// COMMIT, ABORT, VALIDATE and INTERRUPT, which use the entries and the flags alone.
+// COMMIT, ABORT, VALIDATE and INTERRUPT.
 
 ghost use Rattle.std.specs.Prelude.{◌≡◌};
-ghost use Rattle.entry.specs.Answer.{answered, no_cycles};
 ghost use Rattle.rules.specs.State.{outcome};
+ghost use Rattle.rules.specs.Rollback.{ended};
 ghost use Rattle.rules.specs.Ends.{commit, abort, validate, interrupt};
-ghost use Rattle.rules.specs.Lent.{OnEntriesFlags};
 
-use entry::answer::{Answer, Answered, Counts};
-use rules::{Copies, Dims, Flags};
+use entry::answer::{Answer, Answered};
+use rules::{Caches, Dims};
 
-fn told(answer: Answer) -> Answered
-    ensures { result ≡ answered answer no_cycles }
+// TACTIVE of p becomes false, TSTATUS true.
+fn end(c: &mut Caches, p: usize)
+    ensures { c.new ≡ ended p c.old }
 {
-    Answered {
-        answer: answer,
-        counts: Counts::quiet(0),
+    c.flags[p % 8] = 0;
+    c.flags[8 + p % 8] = 1;
+}
+
+#[tactic(auto, unfolding(rules::specs::Ends::commit))]
+pub(crate) fn commit(c: &mut Caches, d: Dims, p: usize) -> Answered
+    ensures { outcome result c.new ≡ commit d p c.old }
+{
+    if !c.is_status_up(p) {
+        end(c, p);
+        return Answered::quiet(Answer::Failure);
     }
+    caches::commit_entries(c, d, p);
+    end(c, p);
+    Answered::quiet(Answer::Success)
 }
 
-pub(crate) fn commit(entries: &mut Copies, flags: &mut Flags, d: Dims, p: usize) -> Answered
-    ensures { OnEntriesFlags (outcome result) (commit d p) entries flags }
+#[tactic(auto, unfolding(rules::specs::Ends::abort))]
+pub(crate) fn abort(c: &mut Caches, d: Dims, p: usize) -> Answered
+    ensures { outcome result c.new ≡ abort d p c.old }
 {
-    let active = p % 8;
-    let status = 8 + p % 8;
-    if flags[status] == 0 {
-        flags[active] = 0;
-        flags[status] = 1;
-        return told(Answer::Failure);
+    caches::rollback(c, d, p);
+    end(c, p);
+    Answered::quiet(Answer::Done)
+}
+
+#[tactic(auto, unfolding(rules::specs::Ends::validate))]
+pub(crate) fn validate(c: &mut Caches, p: usize) -> Answered
+    ensures { outcome result c.new ≡ validate p c.old }
+{
+    if !c.is_status_up(p) {
+        end(c, p);
+        return Answered::quiet(Answer::False);
     }
-    caches::commit_entries(entries, p, d.entries);
-    flags[active] = 0;
-    flags[status] = 1;
-    told(Answer::Success)
+    Answered::quiet(Answer::True)
 }
 
-pub(crate) fn abort(entries: &mut Copies, flags: &mut Flags, d: Dims, p: usize) -> Answered
-    ensures { OnEntriesFlags (outcome result) (abort d p) entries flags }
+#[tactic(auto, unfolding(rules::specs::Ends::interrupt))]
+pub(crate) fn interrupt(c: &mut Caches, d: Dims, p: usize) -> Answered
+    ensures { outcome result c.new ≡ interrupt d p c.old }
 {
-    caches::rollback(entries, flags, p, d.entries);
-    let active = p % 8;
-    let status = 8 + p % 8;
-    flags[active] = 0;
-    flags[status] = 1;
-    told(Answer::Done)
-}
-
-pub(crate) fn validate(entries: &mut Copies, flags: &mut Flags, p: usize) -> Answered
-    ensures { OnEntriesFlags (outcome result) (validate p) entries flags }
-{
-    let active = p % 8;
-    let status = 8 + p % 8;
-    if flags[status] == 0 {
-        flags[active] = 0;
-        flags[status] = 1;
-        return told(Answer::False);
-    }
-    told(Answer::True)
-}
-
-pub(crate) fn interrupt(entries: &mut Copies, flags: &mut Flags, d: Dims, p: usize) -> Answered
-    ensures { OnEntriesFlags (outcome result) (interrupt d p) entries flags }
-{
-    caches::rollback(entries, flags, p, d.entries);
-    told(Answer::Done)
+    caches::rollback(c, d, p);
+    Answered::quiet(Answer::Done)
 }

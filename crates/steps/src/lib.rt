@@ -1,45 +1,53 @@
-// The steps by their numbers, on the lent arrays, and which of them are refused.
+// The steps by their numbers, on the caches that are lent, and which of them are refused.
 
 #![tactic(auto)]
 
-mod allowed;
 mod ends;
+mod operands;
 
-ghost use Rattle.std.specs.Prelude.{◌≡◌};
+ghost use Rattle.std.specs.Prelude.{◌≡◌, false, IfOk};
+ghost use Rattle.entry.specs.Answer.{told_as, is_refusal};
 ghost use Rattle.rules.specs.State.{outcome};
 ghost use Rattle.rules.specs.Step.{take_step};
-ghost use Rattle.rules.specs.Lent.{lent, returned};
 
 use entry::answer::Answered;
-use entry::numbers::{ABORT, COMMIT, INTERRUPT, LOAD, LT, LTX, ST, STORE, VALIDATE};
-use entry::refusals::NO_SUCH_STEP;
+use entry::numbers::Op;
+use entry::refusals::Refusal;
 use entry::step::Step;
-use rules::{Copies, Dims, Flags, Memory};
+use rules::{Caches, Dims, narrowed};
 
-// One arm for each instruction. A refused step leaves the arrays as they were. LT, LTX and ST meet after the match, and nothing else does:
-// then the compiler writes transact out in a run's loop, instead of calling it at three places.
-pub fn take_step(
-    memory: &mut Memory,
-    lines: &mut Copies,
-    entries: &mut Copies,
-    flags: &mut Flags,
-    d: Dims,
-    step: Step,
-) -> Answered
-    ensures { outcome result (returned memory lines entries flags) ≡ take_step d step (lent memory lines entries flags) }
+// A refused step leaves the caches as they were.
+pub fn take_step(c: &mut Caches, d: Dims, step: Step) -> Answered
+    ensures { outcome result c.new ≡ take_step d step c.old }
 {
-    let op = step.op;
-    let told = match op {
-        LOAD => return allowed::load(memory, lines, entries, flags, d, step),
-        STORE => return allowed::store(memory, lines, entries, flags, d, step),
-        LT => allowed::transact(memory, lines, entries, flags, d, LT, step),
-        LTX => allowed::transact(memory, lines, entries, flags, d, LTX, step),
-        ST => allowed::transact(memory, lines, entries, flags, d, ST, step),
-        COMMIT => return allowed::commit(entries, flags, d, step),
-        ABORT => return allowed::abort(entries, flags, d, step),
-        VALIDATE => return allowed::validate(entries, flags, d, step),
-        INTERRUPT => return allowed::interrupt(entries, flags, d, step),
-        9..=255 => return Answered::refused(NO_SUCH_STEP),
-    };
-    told
+    match answer(c, d, step) {
+        Ok(told) => told,
+        Err(refusal) => refusal.into(),
+    }
+}
+
+// Refusals 6, 7 and 8, then the instruction, which refuses nothing. Document 01 names the form: an arm for each instruction.
+#[tactic(auto, unfolding(rules::specs::Step::take_step))]
+pub fn answer(c: &mut Caches, d: Dims, step: Step) -> Result<Answered, Refusal>
+    ensures told { outcome (told_as result) c.new ≡ take_step d step c.old }
+    ensures unrefused { IfOk result (λ told. is_refusal told.answer ≡ false) }
+{
+    let op = Op::from(step.op);
+    if !matches!(op, Op::Other(_)) {
+        operands::test(d, op, step)?;
+    }
+    let p = step.core;
+    let word = narrowed(step.word);
+    Ok(match op {
+        Op::Load => plain::load(c, d, p, word),
+        Op::Store => plain::store(c, d, p, word, step.value),
+        Op::Lt => transact::transact(c, d, op, p, word, step.value),
+        Op::Ltx => transact::transact(c, d, op, p, word, step.value),
+        Op::St => transact::transact(c, d, op, p, word, step.value),
+        Op::Commit => ends::commit(c, d, p),
+        Op::Abort => ends::abort(c, d, p),
+        Op::Validate => ends::validate(c, p),
+        Op::Interrupt => ends::interrupt(c, d, p),
+        Op::Other(_) => return Err(Refusal::NoSuchStep),
+    })
 }

@@ -3,56 +3,15 @@
 #![tactic(auto)]
 
 mod faults;
+pub mod reading;
 
-ghost use Rattle.std.specs.Prelude.{◌≡◌, length};
-ghost use Rattle.io.specs.Counts.{IsPrefixLen};
-
-use crate::faults::tell;
+use crate::faults::{Fault, tell};
+use crate::reading::{read_full, zeros};
 use listing::Replaying;
+use rules::Dims;
 use std::io;
-use std::io::{ErrorKind, Read, Write};
+use std::io::{ErrorKind, Write};
 use std::process::ExitCode;
-
-fn input_buffer() -> [u8; 4194305]
-    ensures { 4194305 ≡ length result }
-{
-    [0; 4194305]
-}
-
-fn output_buffer() -> [u8; 65536]
-    ensures { 65536 ≡ length result }
-{
-    [0; 65536]
-}
-
-// How many bytes came, and the error of a read that failed before the input was full or at its end.
-#[derive(Clone, Copy)]
-struct Came {
-    bytes: usize,
-    failed: Option<io::Error>,
-}
-
-fn read_text<R: Read>(reader: &mut R, input: &mut [u8]) -> Came
-    ensures { IsPrefixLen result.bytes input.new }
-{
-    let mut bytes = 0;
-    while bytes < input.len() {
-        match reader.read(&mut input[bytes..]) {
-            Ok(0) => break,
-            Ok(more) => bytes += more,
-            Err(error) => {
-                return Came {
-                    bytes,
-                    failed: Some(error),
-                };
-            }
-        }
-    }
-    Came {
-        bytes,
-        failed: None,
-    }
-}
 
 // A reader that stops early is no fault.
 fn write_piece<W: Write>(writer: &mut W, piece: &[u8]) -> io::Result<bool> {
@@ -65,13 +24,10 @@ fn write_piece<W: Write>(writer: &mut W, piece: &[u8]) -> io::Result<bool> {
 
 // Whether a piece's bytes came through, and there were any.
 fn pass_on<W: Write>(writer: &mut W, out: &[u8], used: usize) -> io::Result<bool> {
-    if used == 0 {
-        return Ok(false);
+    match out.get(..used) {
+        Some(piece) if used > 0 => write_piece(writer, piece),
+        _ => Ok(false),
     }
-    if used > out.len() {
-        return Ok(false);
-    }
-    write_piece(writer, &out[..used])
 }
 
 // A proved loop has to end. So this one has a number of turns that no listing uses up: a piece that writes nothing is the last.
@@ -94,26 +50,20 @@ fn write_pieces<W: Write>(
 
 // The first 4,194,305 bytes decide the listing: the record that holds the last of them ends the reading. A log that a fault cut short has no
 // listing.
-pub fn replay_text(
-    rt: &(impl Input + Print + Eprint),
-    processors: usize,
-    words: usize,
-    lines: usize,
-    entries: usize,
-) -> ExitCode {
-    let mut input = input_buffer();
-    let came = read_text(&mut rt.reader(), &mut input);
-    if let Some(error) = came.failed {
-        tell(rt, "reading standard input failed", error);
-        return ExitCode::FAILURE;
-    }
-    let n = came.bytes;
-    let mut out = output_buffer();
-    let x = listing::begin(&input[..n], processors, words, lines, entries);
-    match write_pieces(&mut io::writer(rt), &input[..n], &mut out, x) {
+fn replay(rt: &(impl Input + Print), dims: Dims) -> Result<(), Fault> {
+    let mut input = zeros::<4194305>();
+    let n = read_full(&mut rt.reader(), &mut input).map_err(Fault::Reading)?;
+    let s = &input[..n];
+    let x = listing::begin(s, dims);
+    let mut out = zeros::<65536>();
+    write_pieces(&mut io::writer(rt), s, &mut out, x).map_err(Fault::Writing)
+}
+
+pub fn replay_text(rt: &(impl Input + Print + Eprint), dims: Dims) -> ExitCode {
+    match replay(rt, dims) {
         Ok(()) => ExitCode::SUCCESS,
-        Err(error) => {
-            tell(rt, "writing standard output failed", error);
+        Err(fault) => {
+            tell(rt, fault);
             ExitCode::FAILURE
         }
     }

@@ -10,8 +10,7 @@ use lib.Dec.{ltb}
 use lib.ListN.{length, set, length-append, length-set}
 use lib.Seq.{sets, get_or-set_same, get_or-set_other}
 use borrow.Author.Tests.{le-ltb, ltb-true, ltb-false, eq-eqb, ne_eqb}
-use Rattle.text.specs.declared.decimals.Field.{Field}
-use Rattle.text.specs.declared.decimals.Field.TheVariants.{Number}
+use Rattle.std.specs.Prelude.{Option, Some}
 use Rattle.text.specs.Marks.{DIGIT_ZERO, DIGIT_NINE, NUMBER_MOST, byte_at}
 use Rattle.text.specs.Decimals.{push, field_of}
 use Rattle.text.specs.Writing.{filled, put_of, digits, digit_of, decimal, width_from, width_of}
@@ -23,22 +22,22 @@ unfoldable pub tens : ℕ → ℕ → ℕ
 tens zero v = v
 tens (suc w) v = tens w (v / 10)
 
-pub digits_append : (l m : List ℕ) (f : Field) → digits_in (l ++ m) f ≡ digits_in m (digits_in l f)
+pub digits_append : (l m : List ℕ) (f : Option ℕ) → digits_in (l ++ m) f ≡ digits_in m (digits_in l f)
 unfolding digits_in
 digits_append [] m f = refl
 digits_append (b ∷ l) m f = digits_append l m (push b f)
 
-pub push_digit : (v : ℕ) → v ≤ NUMBER_MOST → push (digit_of v) (Number (v / 10)) ≡ Number v
+pub push_digit : (v : ℕ) → v ≤ NUMBER_MOST → push (digit_of v) (Some (v / 10)) ≡ Some v
 unfolding push
 push_digit v h =
     let e : v / 10 * 10 + (DIGIT_ZERO + v % 10 - DIGIT_ZERO) ≡ v = omega arith in
     rw (le-ltb (DIGIT_ZERO + v % 10) DIGIT_ZERO (omega arith), le-ltb DIGIT_NINE (DIGIT_ZERO + v % 10) (omega arith), e, le-ltb NUMBER_MOST v h)
 
-pub digits_back : (w v : ℕ) → tens w v ≡ 0 → v ≤ NUMBER_MOST → digits_in (digits w v) (Number 0) ≡ Number v
+pub digits_back : (w v : ℕ) → tens w v ≡ 0 → v ≤ NUMBER_MOST → digits_in (digits w v) (Some 0) ≡ Some v
 unfolding tens digits digits_in
-digits_back zero v e h = ap Number (sym e)
+digits_back zero v e h = ap Some (sym e)
 digits_back (suc w) v e h =
-    digits_append (digits w (v / 10)) (digit_of v ∷ []) (Number 0) ∙ rw (digits_back w (v / 10) e (omega arith)) (push_digit v h)
+    digits_append (digits w (v / 10)) (digit_of v ∷ []) (Some 0) ∙ rw (digits_back w (v / 10) e (omega arith)) (push_digit v h)
 
 -- the width is enough, and no more than it takes
 pub record Enough (f x w : ℕ) : Type 0 where
@@ -81,30 +80,30 @@ led (suc k) v =
       long = length-append r.rest (digit_of v ∷ []) ∙ omega (arith, r.long);
     }
 
-pub field_plain : (b : ℕ) (rest : List ℕ) (v : ℕ) → digits_in (b ∷ rest) (Number 0) ≡ Number v → (b ≡ DIGIT_ZERO → ⊥) →
-    field_in (b ∷ rest) ≡ Number v
+pub field_plain : (b : ℕ) (rest : List ℕ) (v : ℕ) → digits_in (b ∷ rest) (Some 0) ≡ Some v → (b ≡ DIGIT_ZERO → ⊥) →
+    field_in (b ∷ rest) ≡ Some v
 unfolding field_in
 field_plain b rest v d n = rw (ne_eqb b DIGIT_ZERO n, d)
 
-pub field_zero : (b : ℕ) (rest : List ℕ) (v : ℕ) → b ≡ DIGIT_ZERO → length rest ≡ 0 → v ≡ 0 → field_in (b ∷ rest) ≡ Number v
+pub field_zero : (b : ℕ) (rest : List ℕ) (v : ℕ) → b ≡ DIGIT_ZERO → length rest ≡ 0 → v ≡ 0 → field_in (b ∷ rest) ≡ Some v
 unfolding field_in
 field_zero b rest v e z o = rw (eq-eqb b DIGIT_ZERO e, eq-eqb (length rest) 0 z, o)
 
-pub field_led : (k v : ℕ) → v ≤ NUMBER_MOST → tens (suc k) v ≡ 0 → (0 < k → 0 < tens k v) → field_in (digits (suc k) v) ≡ Number v
+pub field_led : (k v : ℕ) → v ≤ NUMBER_MOST → tens (suc k) v ≡ 0 → (0 < k → 0 < tens k v) → field_in (digits (suc k) v) ≡ Some v
 unfolding tens
 field_led k v h t g = by (ℕ_discrete (tens k v) 0)
   where
     l : Led k v
     l = led k v
 
-    d : digits_in ((DIGIT_ZERO + tens k v % 10) ∷ l.rest) (Number 0) ≡ Number v
-    d = ap (λ (m : List ℕ). digits_in m (Number 0)) (sym l.is) ∙ digits_back (suc k) v t h
+    d : digits_in ((DIGIT_ZERO + tens k v % 10) ∷ l.rest) (Some 0) ≡ Some v
+    d = ap (λ (m : List ℕ). digits_in m (Some 0)) (sym l.is) ∙ digits_back (suc k) v t h
 
     none : (j : ℕ) → (0 < j → 0 < tens j v) → tens j v ≡ 0 → (j ≡ 0) × (v ≡ 0)
     none zero q z = (refl, z)
     none (suc j) q z = absurd (omega (arith, q (omega arith)))
 
-    by : Dec (tens k v ≡ 0) → field_in (digits (suc k) v) ≡ Number v
+    by : Dec (tens k v ≡ 0) → field_in (digits (suc k) v) ≡ Some v
     by (yes z) = ap field_in l.is ∙ field_zero (DIGIT_ZERO + tens k v % 10) l.rest v (omega (arith, z)) (l.long ∙ (none k g z).0) (none k g z).1
     by (no n) = ap field_in l.is ∙ field_plain (DIGIT_ZERO + tens k v % 10) l.rest v d (λ e. n (omega (arith, tens_last k v, t)))
 
@@ -112,14 +111,14 @@ pub tens_wide : (v : ℕ) → v < 18446744073709551616 → tens 20 v ≡ 0
 unfolding tens
 tens_wide v h = omega arith
 
-pub field_back : (v : ℕ) → v ≤ NUMBER_MOST → field_in (decimal v) ≡ Number v
+pub field_back : (v : ℕ) → v ≤ NUMBER_MOST → field_in (decimal v) ≡ Some v
 unfolding decimal width_of
 field_back v h = go (width_enough 19 v 1 (tens_wide v (omega arith)))
   where
-    go : Enough 19 v 1 → field_in (digits (width_from 19 v 1) v) ≡ Number v
+    go : Enough 19 v 1 → field_in (digits (width_from 19 v 1) v) ≡ Some v
     go r = let e : width_from 19 v 1 ≡ suc r.more = r.width ∙ omega arith in rw e (at r.more r.enough r.takes)
       where
-        at : (k : ℕ) → tens (suc k) v ≡ 0 → (0 < k → 0 < tens k v) → field_in (digits (suc k) v) ≡ Number v
+        at : (k : ℕ) → tens (suc k) v ≡ 0 → (0 < k → 0 < tens k v) → field_in (digits (suc k) v) ≡ Some v
         at k t g = field_led k v h t g
 
 -- The number that digits stand for, after what is read already. There is no limit to it.
@@ -163,7 +162,7 @@ bytes_put (b ∷ t) o at h =
 
 -- The field from a place up to where a number written there ends is that number.
 pub put_back : (v : ℕ) (o : List ℕ) (at : ℕ) → v ≤ NUMBER_MOST → at + length (decimal v) ≤ length o →
-    field_of (put_of (decimal v) (filled at o)).held at (put_of (decimal v) (filled at o)).place ≡ Number v
+    field_of (put_of (decimal v) (filled at o)).held at (put_of (decimal v) (filled at o)).place ≡ Some v
 put_back v o at h l =
     let t = decimal v in
     let e : at + length t - at ≡ length t = omega arith in

@@ -1,10 +1,12 @@
-pub mod Cases
 pub mod Inside
-pub mod Tables
 pub mod Puts
 pub mod Ends
 pub mod Answers
 pub mod FieldBytes
+pub mod Parts
+pub mod Fields
+pub mod Alone
 pub mod Back
+pub mod Refused
 pub mod Unique
 pub mod Table

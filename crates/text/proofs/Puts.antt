@@ -5,11 +5,12 @@ use mathlib.Core.Bool.{Bool, true, false}
 use mathlib.Core.List.{List, [], ◌∷◌, ◌++◌}
 use native.Mathlib.Omega.{arith}
 use native.Mathlib.Nat.{add-zero}
-use native.Mathlib.Numerals.{add-one}
 use lib.Dec.{ltb}
 use borrow.Author.Tests.{lt-ltb, le-ltb, le-leb, lt-leb}
-use lib.ListN.{length, get_or, set, drop, length-append, drop_of_length-le}
-use lib.Seq.{sets, length-sets, set_comm, drop-cons}
+use lib.ListN.{length, set, take, drop, length-append, drop_of_length-le}
+use Rattle.std.proofs.lemmas.List.{append_assoc, append-nil, drop-drop, length-take, length-drop}
+use lib.Seq.{sets, length-sets, set_comm, sets-eq}
+use borrow.Rule.Slice.PartMut.{put_mid}
 use Rattle.laws.specs.Choice.{pick}
 use Rattle.text.specs.Writing.{WIDTH_MOST, Filled, filled, put_of, width_from, width_of, digit_of, digits, decimal}
 
@@ -30,28 +31,23 @@ pub sets_append : (t u : List ℕ) (o : List ℕ) (at : ℕ) → sets o at (t ++
 sets_append [] u o at = ap (λ (k : ℕ). sets o k u) (omega arith)
 sets_append (a ∷ t) u o at = sets_append t u (set o at a) (suc at) ∙ ap (λ (k : ℕ). sets (sets (set o at a) (suc at) t) k u) (omega arith)
 
--- One turn of the loop that writes digits from the right.
-pub digits_turn : (w v : ℕ) (o : List ℕ) (at : ℕ) →
-    sets (set o (at + w) (digit_of v)) at (digits w (v / 10)) ≡ sets o at (digits (suc w) v)
+-- The loop that writes digits from the right: its turn, and where it begins.
+pub digits_step : (i x : ℕ) (o : List ℕ) → 0 < i → sets (set o (i - 1) (digit_of x)) 0 (digits (i - 1) (x / 10)) ≡ sets o 0 (digits i x)
 unfolding digits
-digits_turn w v o at =
-    sets_set (digits w (v / 10)) o at (at + w) (digit_of v) (omega (arith, digits_length w (v / 10)))
-    ∙ sym
-    (sets_append (digits w (v / 10)) (digit_of v ∷ []) o at
-    ∙ ap (λ (k : ℕ). set (sets o at (digits w (v / 10))) (at + k) (digit_of v)) (digits_length w (v / 10)))
+digits_step zero x o h = absurd (omega arith)
+digits_step (suc w) x o h =
+    let one : suc w - 1 ≡ w = omega arith in
+    let l = digits_length w (x / 10) in
+    rw one
+    (sets_set (digits w (x / 10)) o 0 w (digit_of x) (omega (arith, l))
+    ∙ sym (sets_append (digits w (x / 10)) (digit_of x ∷ []) o 0
+    ∙ ap (λ (k : ℕ). set (sets o 0 (digits w (x / 10))) k (digit_of x)) (omega (arith, l))))
 
-pub digits_step : (i x : ℕ) (o : List ℕ) (at : ℕ) → 0 < i →
-    sets (set o (at + (i - 1)) (digit_of x)) at (digits (i - 1) (x / 10)) ≡ sets o at (digits i x)
-digits_step zero x o at h = absurd (omega arith)
-digits_step (suc i) x o at h = let e : suc i - 1 ≡ i = omega arith in rw e (digits_turn i x o at)
-
--- The loop that copies.
-pub copy_turn : (t o : List ℕ) (at i : ℕ) → i < length t →
-    sets (set o (at + i) (get_or t i 0)) (at + (i + 1)) (drop (i + 1) t) ≡ sets o (at + i) (drop i t)
-copy_turn t o at i h = let e : at + (i + 1) ≡ suc (at + i) = omega arith in rw (drop-cons t i 0 h, e, add-one)
-
-pub copy_end : (t o : List ℕ) (k i : ℕ) → length t ≤ i → sets o k (drop i t) ≡ o
-copy_end t o k i h = rw (drop_of_length-le t {i = i} h)
+pub sets_all : (t o : List ℕ) → length t ≡ length o → sets o 0 t ≡ t
+sets_all t o h =
+    let e = sets-eq t o 0 (omega (arith, h)) in
+    let d : drop (0 + length t) o ≡ [] = drop_of_length-le o (omega (arith, h)) in
+    e ∙ rw d (append-nil t)
 
 -- The loop that counts digits.
 pub width_end : (w x : ℕ) → WIDTH_MOST ≤ w → width_from (WIDTH_MOST - w) x w ≡ w
@@ -102,15 +98,26 @@ pub put_fit : (t o o' : List ℕ) (at : ℕ) → at + length t ≤ length o → 
 unfolding put_of
 put_fit t o o' at h e = rw (e, le-leb (at + length t) (length o) h)
 
+-- What copies a text to its part of the buffer, and what writes a number there.
+pub part_sets : (t o new : List ℕ) (at end : ℕ) → end ≡ at + length t → end ≤ length o → new ≡ t → put_mid at (end - at) o new ≡ sets o at t
+part_sets t o new at end e h n =
+    let k : end - at ≡ length t = omega arith in
+    rw (k, n, sets-eq t o at (omega arith), drop-drop) (sym (append_assoc (take at o) t (drop (at + length t) o)))
+
+pub part_fit : (t o new : List ℕ) (at end : ℕ) → end ≡ at + length t → end ≤ length o → new ≡ t →
+    filled end (put_mid at (end - at) o new) ≡ put_of t (filled at o)
+part_fit t o new at end e h n =
+    rw (part_sets t o new at end e h n, e) (put_fit t o (sets o at t) at (omega arith) refl)
+
 pub number_not : (v n : ℕ) (o : List ℕ) (at : ℕ) → n ≡ width_of v → length o < at + n → filled at o ≡ put_of (decimal v) (filled at o)
 number_not v n o at e h = put_not (decimal v) o at (omega (arith, decimal_length v))
 
-pub number_fit : (v n : ℕ) (o o' : List ℕ) (at : ℕ) → n ≡ width_of v → at + n ≤ length o → o' ≡ sets o at (digits n v) →
-    filled (at + n) o' ≡ put_of (decimal v) (filled at o)
+pub number_fit : (v n : ℕ) (o new : List ℕ) (at end : ℕ) → n ≡ width_of v → end ≡ at + n → end ≤ length o →
+    new ≡ digits (length (take (end - at) (drop at o))) v → filled end (put_mid at (end - at) o new) ≡ put_of (decimal v) (filled at o)
 unfolding decimal
-number_fit v n o o' at e h g =
-    let l : length (digits n v) ≡ n = digits_length n v in
-    rw (← e) (ap (λ (k : ℕ). filled (at + k) o') (sym l) ∙ put_fit (digits n v) o o' at (omega (arith, l)) g)
+number_fit v n o new at end e f h d =
+    let k : length (take (end - at) (drop at o)) ≡ width_of v = simp (length-take, length-drop) (omega arith) in
+    part_fit (decimal v) o new at end (omega (arith, decimal_length v)) h (d ∙ ap (λ (w : ℕ). digits w v) k)
 
 -- Put after put is one put of both, where both fit.
 pub put_put : (t u : List ℕ) (x : Filled) → x.place + length (t ++ u) ≤ length x.held → put_of u (put_of t x) ≡ put_of (t ++ u) x

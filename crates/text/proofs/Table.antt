@@ -1,5 +1,5 @@
 -- Records and numbers by one computed test. A record's text is read with its CRLF and without one; a number's text is what is written.
-use mathlib.Core.Bool.{Bool, true, false}
+use mathlib.Core.Bool.{Bool, false}
 use mathlib.Core.List.{List, [], ◌∷◌, ◌++◌}
 use Prim.Native.Nat.{ℕ}
 use Prim.Native.String.{String}
@@ -10,33 +10,33 @@ use Rattle.laws.specs.Fold.{fold_range}
 use Rattle.entry.specs.Numbers.{LOAD, STORE, LT, LTX, ST, COMMIT, ABORT, VALIDATE, INTERRUPT}
 use Rattle.entry.specs.Refusals.{malformed, no_such_step}
 use Rattle.entry.specs.Step.{step}
-use Rattle.text.specs.declared.records.Record.{Record}
-use Rattle.text.specs.declared.records.Record.TheVariants.{Fields, Refused}
+use Rattle.std.specs.Prelude.{Result, Ok, Err, bytes_eq}
+use Rattle.std.specs.List.{list_all}
+use Rattle.text.specs.declared.records.Parsed.{Parsed}
 use Rattle.text.specs.Quoted.{bytes}
 use Rattle.text.specs.Marks.{CR, LF, find_of}
 use Rattle.text.specs.Decimals.{push, field_of}
 use Rattle.text.specs.Names.{unlike_of, same_text, is_name, named_step}
 use Rattle.text.specs.Records.{record_end, plain_of, split_of, record_of}
 use Rattle.text.specs.Writing.{width_from, width_of, digits, decimal}
-use Rattle.text.proofs.Tables.{same_bytes}
 
 pub record Row : Type 0 where
   pub text : String
-  pub is : Record
+  pub is : Result Parsed ℕ
 
-abbrev row : String → Record → Row
+abbrev row : String → Result Parsed ℕ → Row
 row t r = record { text = t; is = r }
 
 -- grant, core, op, word, value
-abbrev reads : ℕ → ℕ → ℕ → ℕ → ℕ → Record
-reads g c o w v = Fields (record { grant = g; step = step o c w v })
+abbrev reads : ℕ → ℕ → ℕ → ℕ → ℕ → Result Parsed ℕ
+reads g c o w v = Ok (record { grant = g; step = step o c w v })
 
 -- 11 and 6
-abbrev malformed_record : Record
-malformed_record = Refused malformed
+abbrev malformed_record : Result Parsed ℕ
+malformed_record = Err malformed
 
-abbrev no_step : Record
-no_step = Refused no_such_step
+abbrev no_step : Result Parsed ℕ
+no_step = Err no_such_step
 
 pub rows : List Row
 rows =
@@ -101,17 +101,17 @@ numbers =
     number 18446744073709551615 "18446744073709551615" ∷
     []
 
-abbrev pub same_record : Record → Record → Bool
-same_record (Fields p) (Fields q) =
+abbrev pub same_record : Result Parsed ℕ → Result Parsed ℕ → Bool
+same_record (Ok p) (Ok q) =
     both (eqb p.grant q.grant)
     (both (eqb p.step.core q.step.core)
     (both (eqb p.step.op q.step.op) (both (eqb p.step.word q.step.word) (eqb p.step.value q.step.value))))
-same_record (Fields p) (Refused n) = false
-same_record (Refused m) (Fields q) = false
-same_record (Refused m) (Refused n) = eqb m n
+same_record (Ok p) (Err n) = false
+same_record (Err m) (Ok q) = false
+same_record (Err m) (Err n) = eqb m n
 
 -- the first record of an input
-pub first_record : List ℕ → Record
+pub first_record : List ℕ → Result Parsed ℕ
 unfolding record_end first_from plain_of find_of split_of push fold_range field_of unlike_of same_text is_name named_step record_of
 first_record s = record_of s 0 (record_end s 0)
 
@@ -123,12 +123,8 @@ row_holds r =
 
 pub number_holds : Number → Bool
 unfolding width_from width_of digits decimal
-number_holds n = same_bytes (decimal n.value) (bytes n.text)
+number_holds n = bytes_eq (decimal n.value) (bytes n.text)
 
-abbrev pub all_of : {A : Type 0} → (A → Bool) → List A → Bool
-all_of p [] = true
-all_of p (x ∷ l) = both (p x) (all_of p l)
-
-pub tables_hold : T (both (all_of row_holds rows) (all_of number_holds numbers))
+pub tables_hold : T (both (list_all row_holds rows) (list_all number_holds numbers))
 unfolding rows numbers row_holds number_holds
 tables_hold = tt

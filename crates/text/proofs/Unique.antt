@@ -7,6 +7,7 @@ use borrow.Fn.World.{ArgsD, ResD}
 use borrow.Fn.Kinds.{ended_of}
 use denote.Triple.Clauses.{AtExit}
 use Rattle.text.specs.Writing.{Filled}
+use Rattle.text.proofs.Refused.{numbered_one}
 use Rattle.text.proofs.records.record_end.Reads as record-end-reads
 use Rattle.text.proofs.records.read_record.Reads as read-record-reads
 use Rattle.text.proofs.decimals.read_number.Reads as read-number-reads
@@ -22,7 +23,7 @@ pub record_end_unique : OneAnswer record-end-reads.Post (λ κs r s. r)
 record_end_unique κs a r r' s s' p q = p ∙ sym q
 
 pub read_record_unique : OneAnswer read-record-reads.Post (λ κs r s. r)
-read_record_unique κs a r r' s s' p q = p ∙ sym q
+read_record_unique κs a r r' s s' p q = numbered_one r r' (p ∙ sym q)
 
 pub read_number_unique : OneAnswer read-number-reads.Post (λ κs r s. r)
 read_number_unique κs a r r' s s' p q = p ∙ sym q

@@ -1,10 +1,8 @@
 -- The steps' names.
-use Rattle.std.specs.Prelude.{ℕ, ◌+◌, ◌-◌, Bool, false, not, List, [], ◌∷◌, ◌++◌, eqb, ltb, length, get_or}
+use Rattle.std.specs.Prelude.{ℕ, ◌+◌, ◌-◌, Bool, false, not, Option, Some, None, List, [], ◌∷◌, eqb, ltb, length, get_or}
 use Rattle.laws.specs.Choice.{pick}
 use Rattle.laws.specs.Search.{first_from}
 use Rattle.entry.specs.Refusals.{accepted, no_such_step}
-use Rattle.text.specs.declared.names.Named.{Named}
-use Rattle.text.specs.declared.names.Named.TheVariants.{Step, Nothing}
 use Rattle.text.specs.Marks.{byte_at}
 use Rattle.text.specs.Quoted.{bytes}
 
@@ -36,14 +34,6 @@ step_names =
     bytes "INTERRUPT" ∷
     []
 
--- all of them, one after the other
-abbrev pub joined : List (List ℕ) → List ℕ
-joined [] = []
-joined (x ∷ l) = x ++ joined l
-
-abbrev pub all_names : List ℕ
-all_names = joined step_names
-
 -- The text is the name of step k.
 unfoldable pub is_name : List ℕ → ℕ → ℕ → ℕ → Bool
 is_name s from end k = same_text s from end (get_or step_names k [])
@@ -52,10 +42,10 @@ is_name s from end k = same_text s from end (get_or step_names k [])
 abbrev pub first_named : List ℕ → ℕ → ℕ → ℕ
 first_named s from end = first_from (is_name s from end) 0 (length step_names)
 
-unfoldable pub named_step : List ℕ → ℕ → ℕ → Named
-named_step s from end = let k = first_named s from end in pick (ltb k (length step_names)) (Step k) Nothing
+unfoldable pub named_step : List ℕ → ℕ → ℕ → Option ℕ
+named_step s from end = let k = first_named s from end in pick (ltb k (length step_names)) (Some k) None
 
 -- What the two cases stand for: "any other text there is 6, not 11".
-abbrev pub name_refusal : Named → ℕ
-name_refusal (Step k) = accepted
-name_refusal Nothing = no_such_step
+abbrev pub name_refusal : Option ℕ → ℕ
+name_refusal (Some k) = accepted
+name_refusal None = no_such_step

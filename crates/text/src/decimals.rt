@@ -1,78 +1,41 @@
 // A number field: at least one digit, no leading zero but for 0, at most 4294967295.
 
-ghost use Rattle.std.specs.Prelude.{◌≡◌, ◌<◌};
-ghost use Rattle.text.specs.Decimals.{push, digits_of, field_of};
+ghost use Rattle.std.specs.Prelude.{◌≡◌, Some, length};
+ghost use Rattle.text.specs.Decimals.{push, field_of};
 
-use crate::marks::{DIGIT_NINE, DIGIT_ZERO, byte_at};
-
-#[derive(Clone, Copy)]
-pub enum Field {
-    Number(u32),
-    Bad,
-}
-
-const NUMBER_MOST: u64 = 4294967295;
+use crate::marks::DIGIT_ZERO;
 
 // The number that the bytes from `from` up to `end` write.
-#[tactic(auto, unfolding(crate::specs::Decimals::field_of))]
-pub fn read_number(s: &[u8], from: usize, end: usize) -> Field
+// Two places and no slice: field_of has an answer for every two, also where they are none of s.
+pub fn read_number(s: &[u8], from: usize, end: usize) -> Option<u32>
     ensures { result ≡ field_of s.now from end }
 {
-    if end <= from {
-        return Field::Bad;
-    }
-    let b = byte_at(s, from);
-    if b == DIGIT_ZERO {
-        if end - from == 1 {
-            return Field::Number(0);
-        }
-        return Field::Bad;
-    }
-    read_digits(s, from, end)
+    number_in(s.get(from..end)?)
 }
 
-fn read_digits(s: &[u8], from: usize, end: usize) -> Field
-    ensures { result ≡ digits_of s.now from end }
+// The number that a field writes.
+pub(crate) fn number_in(field: &[u8]) -> Option<u32>
+    ensures { result ≡ field_of field.now 0 (length field.now) }
 {
-    let mut f = Field::Number(0);
-    let mut i = from;
-    while i < end {
-        let b = byte_at(s, i);
-        f = pushed(f, b);
-        i += 1;
+    if *field.first()? == DIGIT_ZERO {
+        return (field.len() == 1).then_some(0);
     }
-    f
+    let mut number = 0;
+    for digit in field {
+        number = pushed(number, *digit)?;
+    }
+    Some(number)
 }
 
 // One more digit.
 #[tactic(auto, unfolding(crate::specs::Decimals::push))]
-fn pushed(f: Field, b: u8) -> Field
-    ensures { result ≡ push b f }
+fn pushed(number: u32, digit: u8) -> Option<u32>
+    ensures { result ≡ push digit (Some number) }
 {
-    let Field::Number(v) = f else {
-        return Field::Bad;
-    };
-    if b < DIGIT_ZERO {
-        return Field::Bad;
+    if !digit.is_ascii_digit() {
+        return None;
     }
-    if DIGIT_NINE < b {
-        return Field::Bad;
-    }
-    let w = wide(v) * 10 + wide_byte(b - DIGIT_ZERO);
-    if NUMBER_MOST < w {
-        return Field::Bad;
-    }
-    Field::Number(w as u32)
-}
-
-fn wide(x: u32) -> u64
-    ensures { (result ≡ x) × (result < 4294967296) }
-{
-    x as u64
-}
-
-fn wide_byte(x: u8) -> u64
-    ensures { (result ≡ x) × (result < 256) }
-{
-    x as u64
+    number
+        .checked_mul(10)?
+        .checked_add(u32::from(digit - DIGIT_ZERO))
 }

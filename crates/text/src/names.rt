@@ -1,83 +1,37 @@
 // Names: a text compared with a name, and the steps' names.
 
-ghost use Rattle.std.specs.Prelude.{◌≡◌, ◌+◌, ◌<◌, length};
-ghost use Rattle.text.specs.Names.{same_text, unlike_of, step_names, all_names, is_name, named_step};
+ghost use Rattle.std.specs.Prelude.{◌≡◌, length};
+ghost use Rattle.text.specs.Names.{same_text, named_step};
 
-use crate::marks::byte_at;
-use entry::numbers::INTERRUPT;
-
-// What a text names: a step by its number, or nothing.
-#[derive(Clone, Copy)]
-pub enum Named {
-    Step(u8),
-    Nothing,
-}
-
-// The steps' names in the order of their numbers. Name k is what stands from the k-th start up to the next.
-const NAMES: [u8; 44] = *b"LOADSTORELTLTXSTCOMMITABORTVALIDATEINTERRUPT";
-
-const STARTS: [u8; 10] = [0, 4, 9, 11, 14, 16, 22, 27, 35, 44];
+// The steps' names in the order of their numbers.
+static NAMES: [&[u8]; 9] = [
+    b"LOAD",
+    b"STORE",
+    b"LT",
+    b"LTX",
+    b"ST",
+    b"COMMIT",
+    b"ABORT",
+    b"VALIDATE",
+    b"INTERRUPT",
+];
 
 // The bytes from `from` up to `end` are the name.
+// Two places and no slice: same_text has an answer for every two, and reads 0 at a place past the end.
 #[tactic(auto, unfolding(crate::specs::Names::same_text))]
 pub fn text_is(s: &[u8], from: usize, end: usize, name: &[u8]) -> bool
     ensures { result ≡ same_text s.now from end name.now }
 {
-    if end < from {
-        return false;
-    }
-    let n = name.len();
-    if end - from != n {
-        return false;
-    }
-    let k = first_unlike(s, from, n, name);
-    k == n
+    end.checked_sub(from) == Some(name.len())
+        && (from..end)
+            .zip(name)
+            .all(|(i, byte)| s.get(i).copied().unwrap_or(0) == *byte)
 }
 
-// The first of n places at which the bytes from `from` on and the name differ, else n.
-fn first_unlike(s: &[u8], from: usize, n: usize, name: &[u8]) -> usize
-    requires { from + n < 18446744073709551616 }
-    ensures { result ≡ unlike_of s.now from n name.now }
+// The number of the step that a text names.
+pub(crate) fn step_of(op: &[u8]) -> Option<u8>
+    ensures { result ≡ named_step op.now 0 (length op.now) }
 {
-    let mut i: usize = 0;
-    let at = loop {
-        if i >= n {
-            break i;
-        }
-        let b = byte_at(s, from + i);
-        let c = byte_at(name, i);
-        if b != c {
-            break i;
-        }
-        i += 1;
-    };
-    at
-}
-
-// The text is the name of step k. The table is lent: a copy of it for every name would cost more than the search.
-fn is_name(names: &[u8], s: &[u8], from: usize, end: usize, k: usize) -> bool
-    requires { (names.now ≡ all_names) × (k < length step_names) }
-    ensures { result ≡ is_name s.now from end k }
-{
-    let starts = STARTS;
-    let a = starts[k] as usize;
-    let e = starts[k + 1] as usize;
-    text_is(s, from, end, &names[a..e])
-}
-
-// The step that the bytes from `from` up to `end` name.
-pub(crate) fn step_of(s: &[u8], from: usize, end: usize) -> Named
-    ensures { result ≡ named_step s.now from end }
-{
-    let names = NAMES;
-    let mut k: u8 = 0;
-    loop {
-        if k > INTERRUPT {
-            return Named::Nothing;
-        }
-        if is_name(&names, s, from, end, k as usize) {
-            return Named::Step(k);
-        }
-        k += 1;
-    }
+    let number = NAMES.iter().position(|name| op == *name)?;
+    Some(number as u8)
 }

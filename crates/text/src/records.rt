@@ -1,12 +1,12 @@
 // Records: where one ends, and its five fields.
 
-ghost use Rattle.std.specs.Prelude.{◌≡◌, ◌<◌, length};
-ghost use Rattle.text.specs.Records.{ends_at, record_end, plain_of, split_of, record_of};
+ghost use Rattle.std.specs.Prelude.{◌≡◌, map, length, option_map};
+ghost use Rattle.text.specs.Records.{record_end, cut_of, fields_of, record_of, numbered};
 
-use crate::decimals::{Field, read_number};
-use crate::marks::{COMMA, CR, LF, QUOTE_MARK, byte_at, find};
-use crate::names::{Named, step_of};
-use entry::refusals::{MALFORMED, NO_SUCH_STEP};
+use crate::decimals::number_in;
+use crate::marks::{COMMA, QUOTE_MARK};
+use crate::names::step_of;
+use entry::refusals::Refusal;
 use entry::step::Step;
 
 #[derive(Clone, Copy)]
@@ -15,146 +15,73 @@ pub struct Parsed {
     pub step: Step,
 }
 
-#[derive(Clone, Copy)]
-pub enum Record {
-    Fields(Parsed),
-    Refused(u8),
-}
-
-// Where the four commas of a record stand.
-#[derive(Clone, Copy)]
-struct Commas {
-    a: usize,
-    b: usize,
-    c: usize,
-    d: usize,
-}
-
-#[derive(Clone, Copy)]
-enum Split {
-    Fields(Commas),
-    Bad,
-}
-
 const RECORD_MOST: usize = 64;
 
 // Where the record that starts at `from` ends: at its CRLF, or at the end of input.
 pub fn record_end(s: &[u8], from: usize) -> usize
     ensures { result ≡ record_end s.now from }
 {
-    let n = s.len();
-    let mut i = from;
-    let at = loop {
-        if i >= n {
-            break i;
-        }
-        if ends_at(s, i) {
-            break i;
-        }
-        i += 1;
-    };
-    at
-}
-
-fn ends_at(s: &[u8], i: usize) -> bool
-    requires { i < length s.now }
-    ensures { result ≡ ends_at s.now i }
-{
-    let b = byte_at(s, i);
-    if b != CR {
-        return false;
-    }
-    let c = byte_at(s, i + 1);
-    c == LF
+    (from..s.len())
+        .find(|i| s[*i..].starts_with(b"\r\n"))
+        .unwrap_or(from.max(s.len()))
 }
 
 // The record of the bytes from `from` up to `end`, its CRLF not among them.
-#[tactic(auto, unfolding(crate::specs::Records::record_of))]
-pub fn read_record(s: &[u8], from: usize, end: usize) -> Record
-    ensures { result ≡ record_of s.now from end }
+// Two places and no slice: record_of has an answer for every two, also where they are none of s.
+// Document 01 names the form: a field's answer taken apart by let .. else, refusal 11 in the else.
+pub fn read_record(s: &[u8], from: usize, end: usize) -> Result<Parsed, Refusal>
+    ensures { numbered result ≡ record_of s.now from end }
 {
-    let Split::Fields(cs) = split_record(s, from, end) else {
-        return Record::Refused(MALFORMED);
+    let Some(record) = s.get(from..end) else {
+        return Err(Refusal::Malformed);
     };
-    let a = cs.a;
-    let b = cs.b;
-    let c = cs.c;
-    let d = cs.d;
-    let Field::Number(grant) = read_number(s, from, a) else {
-        return Record::Refused(MALFORMED);
+    let Some(fields) = fields_of(record) else {
+        return Err(Refusal::Malformed);
     };
-    let Field::Number(core) = read_number(s, a + 1, b) else {
-        return Record::Refused(MALFORMED);
+    let [grant, core, op, word, value] = fields;
+    let Some(grant) = number_in(grant) else {
+        return Err(Refusal::Malformed);
     };
-    let Field::Number(word) = read_number(s, c + 1, d) else {
-        return Record::Refused(MALFORMED);
+    let Some(core) = number_in(core) else {
+        return Err(Refusal::Malformed);
     };
-    let Field::Number(value) = read_number(s, d + 1, end) else {
-        return Record::Refused(MALFORMED);
+    let Some(word) = number_in(word) else {
+        return Err(Refusal::Malformed);
     };
-    let Named::Step(op) = step_of(s, b + 1, c) else {
-        return Record::Refused(NO_SUCH_STEP);
+    let Some(value) = number_in(value) else {
+        return Err(Refusal::Malformed);
     };
-    let processor = core as usize;
+    let Some(op) = step_of(op) else {
+        return Err(Refusal::NoSuchStep);
+    };
     let step = Step {
-        op: op,
-        core: processor,
-        word: word,
-        value: value,
+        op,
+        core: core as usize,
+        word,
+        value,
     };
-    Record::Fields(Parsed {
-        grant: grant,
-        step: step,
-    })
+    Ok(Parsed { grant, step })
 }
 
-// Four commas, so five fields.
-#[tactic(auto, unfolding(crate::specs::Records::split_of))]
-fn split_record(s: &[u8], from: usize, end: usize) -> Split
-    ensures { result ≡ split_of s.now from end }
+// Four commas, so five fields, in at most 64 bytes, and no quote mark.
+#[tactic(auto, unfolding(crate::specs::Records::fields_of))]
+fn fields_of(record: &[u8]) -> Option<[&[u8]; 5]>
+    ensures { option_map (map (λ f. f.now)) result ≡ fields_of record.now }
 {
-    if !is_plain(s, from, end) {
-        return Split::Bad;
+    if record.len() > RECORD_MOST || record.contains(&QUOTE_MARK) {
+        return None;
     }
-    let a = find(s, from, end, COMMA);
-    if a >= end {
-        return Split::Bad;
-    }
-    let b = find(s, a + 1, end, COMMA);
-    if b >= end {
-        return Split::Bad;
-    }
-    let c = find(s, b + 1, end, COMMA);
-    if c >= end {
-        return Split::Bad;
-    }
-    let d = find(s, c + 1, end, COMMA);
-    if d >= end {
-        return Split::Bad;
-    }
-    let e = find(s, d + 1, end, COMMA);
-    if e < end {
-        return Split::Bad;
-    }
-    Split::Fields(Commas {
-        a: a,
-        b: b,
-        c: c,
-        d: d,
-    })
+    let (grant, rest) = cut(record)?;
+    let (core, rest) = cut(rest)?;
+    let (op, rest) = cut(rest)?;
+    let (word, value) = cut(rest)?;
+    (!value.contains(&COMMA)).then_some([grant, core, op, word, value])
 }
 
-// At most 64 bytes, and no quote mark.
-#[tactic(auto, unfolding(crate::specs::Records::plain_of))]
-fn is_plain(s: &[u8], from: usize, end: usize) -> bool
-    ensures { result ≡ plain_of s.now from end }
+// What stands before the first comma, and what after it.
+fn cut(text: &[u8]) -> Option<(&[u8], &[u8])>
+    ensures { option_map (λ p. (p.0.now, p.1.now)) result ≡ cut_of text.now }
 {
-    if end < from {
-        return false;
-    }
-    if RECORD_MOST < end - from {
-        return false;
-    }
-    let q = find(s, from, end, QUOTE_MARK);
-    q >= end
+    let at = text.iter().position(|byte| *byte == COMMA)?;
+    Some((&text[..at], &text[at + 1..]))
 }

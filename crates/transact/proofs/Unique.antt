@@ -2,8 +2,8 @@
 -- reading, `Post`. Assumes nothing.
 use Rattle.laws.specs.OneAnswer.{OneAnswer}
 use mathlib.Core.Path.{◌∙◌, sym}
-use Rattle.rules.specs.State.{caches, outcome}
+use Rattle.rules.specs.State.{outcome}
 use Rattle.transact.proofs.transact.Reads as transact-reads
 
-pub transact_unique : OneAnswer transact-reads.Post (λ κs r s. outcome r (caches s.0.now s.1.0.now s.1.1.0.now s.1.1.1.0.now))
+pub transact_unique : OneAnswer transact-reads.Post (λ κs r s. outcome r s.0.now)
 transact_unique κs a r r' s s' p q = p ∙ sym q

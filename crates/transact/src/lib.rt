@@ -1,312 +1,214 @@
-// LT, LTX and ST on the lent arrays.
+// LT, LTX and ST.
 
 #![tactic(auto)]
 
-ghost use Rattle.std.specs.Prelude.{◌≡◌, List, ℕ, eqb};
+ghost use Rattle.std.specs.Prelude.{◌≡◌, ℕ, eqb};
 ghost use Rattle.laws.specs.Choice.{pick};
-ghost use Rattle.entry.specs.declared.answer.Answer.TheVariants.{Aborted};
-ghost use Rattle.entry.specs.Numbers.{VALID, RESERVED, DIRTY, LT};
-ghost use Rattle.entry.specs.Answer.{answered};
-ghost use Rattle.rules.specs.State.{caches, outcome, counted};
-ghost use Rattle.rules.specs.Transact.{drop_line, finish, request_of, hit, open_normal, clear_backup, fill_backup};
-ghost use Rattle.rules.specs.Transact.{fill, request, miss_at, miss, seek, transact};
-ghost use Rattle.rules.specs.Lent.{lent, returned};
+ghost use Rattle.entry.specs.Numbers.{VALID, RESERVED, LT};
+ghost use Rattle.entry.specs.Kinds.{state_number, cycle_number, step_number};
+ghost use Rattle.rules.specs.State.{outcome, counted};
+ghost use Rattle.rules.specs.Transact.{drop_line, finish, request_of, busy, hit, open_normal};
+ghost use Rattle.rules.specs.Transact.{request, miss_at, miss, seek, transact};
+ghost use Rattle.caches.specs.Own.{below};
 
+use caches::Own;
 use entry::Entry;
 use entry::answer::{Answer, Answered, Counts};
-use entry::numbers::{BACKUP, DIRTY, LT, RESERVED, ST, T_READ, T_RFO, TENTATIVE, VALID};
-use rules::{Copies, Dims, Flags, Memory, place};
+use entry::numbers::{Cycle, Op, State, Tag};
+use rules::{Caches, Dims};
 
-fn request_of(op: u8) -> u8
-    ensures { result ≡ request_of op }
-{
-    if op == LT {
-        return T_READ;
-    }
-    T_RFO
+// What processor p asks for. An ST stores the value.
+#[derive(Clone, Copy)]
+struct Access {
+    op: Op,
+    p: usize,
+    word: u8,
+    value: u32,
 }
 
-fn filled_state(op: u8) -> u8
-    ensures { result ≡ pick (eqb op LT) VALID RESERVED }
-{
-    if op == LT {
-        return VALID;
+impl Access {
+    fn cycle(self) -> Cycle
+        ensures { cycle_number result ≡ request_of (step_number self.op) }
+    {
+        match self.op {
+            Op::Lt => Cycle::TRead,
+            _ => Cycle::TRfo,
+        }
     }
-    RESERVED
-}
 
-fn written_state(state: u8) -> u8
-    ensures { result ≡ pick (eqb state DIRTY) RESERVED state }
-{
-    if state == DIRTY {
-        return RESERVED;
-    }
-    state
-}
-
-fn aborted(c: Counts) -> Answered
-    ensures { result ≡ answered Aborted c }
-{
-    Answered {
-        answer: Answer::Aborted,
-        counts: c,
+    // The state of both entries after a miss.
+    fn filled_state(self) -> State
+        ensures { state_number result ≡ pick (eqb (step_number self.op) LT) VALID RESERVED }
+    {
+        match self.op {
+            Op::Lt => State::Valid,
+            _ => State::Reserved,
+        }
     }
 }
 
-fn drop_line(memory: &mut Memory, lines: &mut Copies, d: Dims, p: usize, word: u8) -> u8
-    ensures { (e f : List ℕ) → counted result (caches memory.new lines.new e f) ≡
-        drop_line d p word (caches memory.old lines.old e f) }
+#[tactic(auto, unfolding(rules::specs::Transact::drop_line))]
+fn drop_line(c: &mut Caches, d: Dims, a: Access) -> u8
+    ensures { counted result c.new ≡ drop_line d a.p a.word c.old }
 {
-    let i = caches::home(d, word);
-    let j = place(p, i);
-    let line = Entry::unpack(lines[j]);
-    if caches::holds(line, word) {
-        return caches::clear(memory, lines, p, i);
+    let home = caches::home(d, a.word);
+    if caches::holds(c.line_at(a.p, home), a.word) {
+        return caches::clear_line(c, a.p, home);
     }
     0
 }
 
-fn finish(entries: &mut Copies, op: u8, p: usize, i: usize, v: u32, c: Counts) -> Answered
-    ensures { (m l f : List ℕ) → outcome result (caches m l entries.new f) ≡ finish op p i v c (caches m l entries.old f) }
+#[tactic(auto, unfolding(rules::specs::Transact::finish))]
+fn finish(c: &mut Caches, a: Access, i: usize, counts: Counts) -> Answered
+    ensures { outcome result c.new ≡ finish (step_number a.op) a.p i a.value counts c.old }
 {
-    let j = place(p, i);
-    let e = Entry::unpack(entries[j]);
-    if op == ST {
-        let f = e.stored(v);
-        entries[j] = f.pack();
+    let e = c.entry_at(a.p, i);
+    if a.op == Op::St {
+        c.put_entry(a.p, i, e.stored(a.value));
         return Answered {
             answer: Answer::Done,
-            counts: c,
+            counts,
         };
     }
     Answered {
         answer: Answer::Value(e.data),
-        counts: c,
+        counts,
     }
 }
 
-fn hit(
-    memory: &mut Memory,
-    lines: &mut Copies,
-    entries: &mut Copies,
-    flags: &mut Flags,
-    d: Dims,
-    op: u8,
-    p: usize,
-    i: usize,
-    word: u8,
-    v: u32,
-    w1: u8,
-    w2: u8,
-) -> Answered
-    ensures { outcome result (returned memory lines entries flags) ≡ hit d op p i word v w1 w2 (lent memory lines entries flags) }
+fn busy(c: &mut Caches, d: Dims, p: usize, cycle: Cycle, writes: u16) -> Answered
+    ensures { outcome result c.new ≡ busy d p (cycle_number cycle) writes c.old }
 {
-    let w = (w1 as u16) + (w2 as u16);
-    let j = place(p, i);
-    let e = Entry::unpack(entries[j]);
-    if (op == LT) | (e.state != VALID) {
-        return finish(entries, op, p, i, v, Counts::quiet(w));
+    caches::rollback(c, d, p);
+    Answered {
+        answer: Answer::Aborted,
+        counts: Counts::asked(cycle, writes, 1),
     }
-    if snoop::request(memory, lines, entries, d, p, word, T_RFO) {
-        caches::rollback(entries, flags, p, d.entries);
-        return aborted(Counts::asked(T_RFO, w, 1));
-    }
-    let f = e.with_state(RESERVED);
-    entries[j] = f.pack();
-    finish(entries, op, p, i, v, Counts::asked(T_RFO, w, 0))
 }
 
-fn open_normal(memory: &mut Memory, entries: &mut Copies, d: Dims, p: usize, i: usize) -> u8
-    ensures { (l f : List ℕ) → counted result (caches memory.new l entries.new f) ≡
-        open_normal d p i (caches memory.old l entries.old f) }
+// The definition's two counts come as their sum.
+#[tactic(auto, unfolding(rules::specs::Transact::hit))]
+fn hit(c: &mut Caches, d: Dims, a: Access, i: usize, writes: u16) -> Answered
+    ensures { outcome result c.new ≡ hit d (step_number a.op) a.p i a.word a.value writes 0 c.old }
 {
-    let j = place(p, i);
-    let e = Entry::unpack(entries[j]);
-    let tentative = e.with_tag(TENTATIVE);
-    let b = caches::free_slot(entries, p, d.entries, i);
-    if b < d.entries {
-        let k = place(p, b);
-        let victim = Entry::unpack(entries[k]);
-        let backup = e.with_tag(BACKUP);
-        entries[k] = backup.pack();
-        entries[j] = tentative.pack();
-        return caches::write_back(memory, victim);
+    let e = c.entry_at(a.p, i);
+    if a.op == Op::Lt || e.state != State::Valid {
+        return finish(c, a, i, Counts::quiet(writes));
     }
-    let state = written_state(e.state);
-    let alone = tentative.with_state(state);
-    entries[j] = alone.pack();
-    caches::write_back(memory, e)
+    if snoop::request(c, d, a.p, a.word, Cycle::TRfo) {
+        return busy(c, d, a.p, Cycle::TRfo, writes);
+    }
+    c.put_entry(a.p, i, e.with_state(State::Reserved));
+    finish(c, a, i, Counts::asked(Cycle::TRfo, writes, 0))
 }
 
-fn clear_backup(memory: &mut Memory, entries: &mut Copies, d: Dims, p: usize, b: usize) -> u8
-    ensures { (l f : List ℕ) → counted result (caches memory.new l entries.new f) ≡
-        clear_backup d p b (caches memory.old l entries.old f) }
+#[tactic(auto, unfolding(rules::specs::Transact::open_normal))]
+fn open_normal(c: &mut Caches, d: Dims, p: usize, i: usize) -> u8
+    ensures { counted result c.new ≡ open_normal d p i c.old }
 {
-    if b < d.entries {
-        return caches::clear(memory, entries, p, b);
-    }
-    0
-}
-
-fn fill_backup(entries: &mut Copies, d: Dims, p: usize, b: usize, e: Entry)
-    ensures { entries.new ≡ fill_backup d p b e entries.old }
-{
-    if b < d.entries {
-        let j = place(p, b);
-        entries[j] = e.pack();
+    let e = c.entry_at(p, i);
+    let tentative = e.with_tag(Tag::Tentative);
+    match caches::free_slot(c, d, p, i) {
+        Some(b) => {
+            let victim = c.entry_at(p, b);
+            c.put_entry(p, b, e.with_tag(Tag::Backup));
+            c.put_entry(p, i, tentative);
+            caches::write_back(c, victim)
+        }
+        None => {
+            let state = match e.state {
+                State::Dirty => State::Reserved,
+                state => state,
+            };
+            c.put_entry(p, i, tentative.with_state(state));
+            caches::write_back(c, e)
+        }
     }
 }
 
-fn fill(
-    entries: &mut Copies,
-    d: Dims,
-    op: u8,
-    p: usize,
-    i: usize,
-    b: usize,
-    word: u8,
-    supplied: u32,
-    v: u32,
-    w: u16,
-) -> Answered
-    ensures { (m l f : List ℕ) → outcome result (caches m l entries.new f) ≡
-        fill d op p i b word supplied v w (caches m l entries.old f) }
-{
-    let state = filled_state(op);
-    let tentative = Entry {
-        state: state,
-        tag: TENTATIVE,
-        word: word,
-        data: supplied,
-    };
-    let j = place(p, i);
-    entries[j] = tentative.pack();
-    let backup = Entry {
-        state: state,
-        tag: BACKUP,
-        word: word,
-        data: supplied,
-    };
-    fill_backup(entries, d, p, b, backup);
-    finish(entries, op, p, i, v, Counts::asked(request_of(op), w, 0))
-}
-
+// The backup, if there is one, has slot b. Where nobody refuses, both entries receive the data.
+#[tactic(auto, unfolding(rules::specs::Transact::request, rules::specs::Transact::fill, rules::specs::Transact::fill_backup))]
 fn request(
-    memory: &mut Memory,
-    lines: &mut Copies,
-    entries: &mut Copies,
-    flags: &mut Flags,
+    c: &mut Caches,
     d: Dims,
-    op: u8,
-    p: usize,
+    a: Access,
     i: usize,
-    b: usize,
-    word: u8,
-    v: u32,
-    w: u16,
+    backup: Option<usize>,
+    writes: u16,
 ) -> Answered
-    ensures { outcome result (returned memory lines entries flags) ≡ request d op p i b word v w (lent memory lines entries flags) }
+    ensures { (b : ℕ) → backup ≡ below d.entries b → outcome result c.new ≡
+        request d (step_number a.op) a.p i b a.word a.value writes c.old }
 {
-    let cycle = request_of(op);
-    if snoop::request(memory, lines, entries, d, p, word, cycle) {
-        caches::rollback(entries, flags, p, d.entries);
-        return aborted(Counts::asked(cycle, w, 1));
+    let cycle = a.cycle();
+    if snoop::request(c, d, a.p, a.word, cycle) {
+        return busy(c, d, a.p, cycle, writes);
     }
-    let a = word as usize;
-    let supplied = memory[a];
-    fill(entries, d, op, p, i, b, word, supplied, v, w)
+    let tentative = Entry {
+        state: a.filled_state(),
+        tag: Tag::Tentative,
+        word: a.word,
+        data: c.word_at(a.word),
+    };
+    c.put_entry(a.p, i, tentative);
+    if let Some(b) = backup {
+        c.put_entry(a.p, b, tentative.with_tag(Tag::Backup));
+    }
+    finish(c, a, i, Counts::asked(cycle, writes, 0))
 }
 
-fn miss_at(
-    memory: &mut Memory,
-    lines: &mut Copies,
-    entries: &mut Copies,
-    flags: &mut Flags,
-    d: Dims,
-    op: u8,
-    p: usize,
-    i: usize,
-    word: u8,
-    v: u32,
-    w1: u8,
-) -> Answered
-    ensures { outcome result (returned memory lines entries flags) ≡ miss_at d op p i word v w1 (lent memory lines entries flags) }
+#[tactic(auto, unfolding(rules::specs::Transact::miss_at, rules::specs::Transact::clear_backup))]
+fn miss_at(c: &mut Caches, d: Dims, a: Access, i: usize, writes: u8) -> Answered
+    ensures { outcome result c.new ≡ miss_at d (step_number a.op) a.p i a.word a.value writes c.old }
 {
-    let w2 = caches::clear(memory, entries, p, i);
-    let b = caches::free_slot(entries, p, d.entries, i);
-    let w3 = clear_backup(memory, entries, d, p, b);
-    let w = (w1 as u16) + (w2 as u16) + (w3 as u16);
-    request(memory, lines, entries, flags, d, op, p, i, b, word, v, w)
+    let of_entry = caches::clear_entry(c, a.p, i);
+    let backup = caches::free_slot(c, d, a.p, i);
+    let of_backup = match backup {
+        Some(b) => caches::clear_entry(c, a.p, b),
+        None => 0,
+    };
+    let all = u16::from(writes) + u16::from(of_entry) + u16::from(of_backup);
+    request(c, d, a, i, backup, all)
 }
 
-fn miss(
-    memory: &mut Memory,
-    lines: &mut Copies,
-    entries: &mut Copies,
-    flags: &mut Flags,
-    d: Dims,
-    op: u8,
-    p: usize,
-    word: u8,
-    v: u32,
-    w1: u8,
-) -> Answered
-    ensures { outcome result (returned memory lines entries flags) ≡ miss d op p word v w1 (lent memory lines entries flags) }
+#[tactic(auto, unfolding(rules::specs::Transact::miss))]
+fn miss(c: &mut Caches, d: Dims, a: Access, writes: u8) -> Answered
+    ensures { outcome result c.new ≡ miss d (step_number a.op) a.p a.word a.value writes c.old }
 {
-    let n = d.entries;
-    let i = caches::free_slot(entries, p, n, n);
-    if i < n {
-        return miss_at(memory, lines, entries, flags, d, op, p, i, word, v, w1);
+    match caches::free_slot(c, d, a.p, d.entries) {
+        Some(i) => miss_at(c, d, a, i, writes),
+        None => {
+            caches::rollback(c, d, a.p);
+            Answered {
+                answer: Answer::Aborted,
+                counts: Counts::quiet(writes.into()),
+            }
+        }
     }
-    caches::rollback(entries, flags, p, n);
-    aborted(Counts::quiet(w1 as u16))
 }
 
-fn seek(
-    memory: &mut Memory,
-    lines: &mut Copies,
-    entries: &mut Copies,
-    flags: &mut Flags,
-    d: Dims,
-    op: u8,
-    p: usize,
-    word: u8,
-    v: u32,
-    w1: u8,
-) -> Answered
-    ensures { outcome result (returned memory lines entries flags) ≡ seek d op p word v (counted w1 (lent memory lines entries flags)) }
+#[tactic(auto, unfolding(rules::specs::Transact::seek, rules::specs::Transact::hit, caches::specs::Own::own_entry))]
+fn seek(c: &mut Caches, d: Dims, a: Access, writes: u8) -> Answered
+    ensures { outcome result c.new ≡ seek d (step_number a.op) a.p a.word a.value (counted writes c.old) }
 {
-    let own = caches::own_entry(entries, p, d.entries, word);
-    let i = own.at;
-    if own.tentative {
-        return hit(memory, lines, entries, flags, d, op, p, i, word, v, w1, 0);
+    match caches::own_entry(c, d, a.p, a.word) {
+        Own::Tentative(i) => hit(c, d, a, i, writes.into()),
+        Own::Normal(i) => {
+            let opened = open_normal(c, d, a.p, i);
+            hit(c, d, a, i, u16::from(writes) + u16::from(opened))
+        }
+        Own::Nowhere => miss(c, d, a, writes),
     }
-    if i < d.entries {
-        let w2 = open_normal(memory, entries, d, p, i);
-        return hit(memory, lines, entries, flags, d, op, p, i, word, v, w1, w2);
-    }
-    miss(memory, lines, entries, flags, d, op, p, word, v, w1)
 }
 
-pub fn transact(
-    memory: &mut Memory,
-    lines: &mut Copies,
-    entries: &mut Copies,
-    flags: &mut Flags,
-    d: Dims,
-    op: u8,
-    p: usize,
-    word: u8,
-    v: u32,
-) -> Answered
-    ensures { outcome result (returned memory lines entries flags) ≡ transact d op p word v (lent memory lines entries flags) }
+#[tactic(auto, unfolding(rules::specs::Transact::transact))]
+pub fn transact(c: &mut Caches, d: Dims, op: Op, p: usize, word: u8, value: u32) -> Answered
+    ensures { outcome result c.new ≡ transact d (step_number op) p word value c.old }
 {
-    let active = p % 8;
-    flags[active] = 1;
-    let status = 8 + p % 8;
-    if flags[status] == 0 {
-        return aborted(Counts::quiet(0));
+    c.flags[p % 8] = 1;
+    if !c.is_status_up(p) {
+        return Answered::quiet(Answer::Aborted);
     }
-    let w = drop_line(memory, lines, d, p, word);
-    seek(memory, lines, entries, flags, d, op, p, word, v, w)
+    let a = Access { op, p, word, value };
+    let writes = drop_line(c, d, a);
+    seek(c, d, a, writes)
 }

@@ -1,13 +1,5 @@
-use Prim.Native.Nat.{◌≤◌, ◌-◌}
-use mathlib.Core.Path.{◌≡◌}
-use Rattle.laws.specs.Places.{apply_from}
 use Rattle.entry.specs.Entry.{committed}
-use Rattle.rules.specs.State.{place}
-use Rattle.rules.specs.Rollback.{repacked, committed_entries}
 use Rattle.caches.proofs.commit_entries.Given as goal
 
-abbrev pub invariant-loop-i : goal.invariant-loop-i
-invariant-loop-i l = (l.i ≤ l.n) × (apply_from (place l.p) (repacked committed) 0 l.i (l.n - l.i) l.entries ≡ committed_entries l.initial.entries l.p l.n)
-
-abbrev pub decreases-loop-i : goal.decreases-loop-i
-decreases-loop-i l = l.n - l.i
+abbrev pub ghost-each_entry : goal.ghost-each_entry
+ghost-each_entry a = committed

@@ -1,33 +1,22 @@
 use native.Mathlib.Omega.{arith}
-use mathlib.Core.Path.{sym, ◌∙◌}
+use mathlib.Core.Path.{sym, ap, ◌∙◌}
 use Rattle.exports.specs.Handed.{run_in}
-use Rattle.exports.proofs.Tested.{held}
-use Rattle.exports.proofs.Copied.{machine_is}
 use Rattle.exports.proofs.Leaving.{ran_some, ran_none}
 use Rattle.exports.proofs.stirnfeld_run.Goals as goal
 
-pub returns-then-not-held_ok : goal.returns-then-not-held_ok
+pub returns-then-not-held_ok-clause-run : goal.returns-then-not-held_ok-clause-run
 unfolding run_in
-returns-then-not-held_ok c = rw (← c.held_ok.ensures, c.if-not-held_ok.true)
+returns-then-not-held_ok-clause-run c = rw (← c.held_ok.ensures, c.if-not-held_ok.true, c.into.ensures)
 
-pub memory_of-memory-requires : goal.memory_of-memory-requires
-memory_of-memory-requires c =
-    (held _ (sym c.held_ok.ensures ∙ c.if-not-held_ok.false)).memory
+pub read_caches-requires : goal.read_caches-requires
+read_caches-requires c = sym c.held_ok.ensures ∙ c.if-not-held_ok.false
 
-pub flags_of-flags-requires : goal.flags_of-flags-requires
-flags_of-flags-requires c =
-    (held _ (sym c.held_ok.ensures ∙ c.if-not-held_ok.false)).flags
+pub returns-then-count-ne0-clause-run : goal.returns-then-count-ne0-clause-run
+returns-then-count-ne0-clause-run c =
+    ran_some _ (sym c.held_ok.ensures ∙ c.if-not-held_ok.false) _ _ _ c.dims_of.ensures _ c.read_caches.ensures _ _ c.run_lent-ended.ensures.run
+    _ (ap (λ p. p.0) c.in_numbers-count.ensures) _ (ap (λ p. p.1) c.in_numbers-count.ensures) (omega (arith, c.if-count-ne0.true)) _ c.put_caches.ensures
 
-pub returns-then-h-ne0 : goal.returns-then-h-ne0
-returns-then-h-ne0 c =
-    let ok = sym c.held_ok.ensures ∙ c.if-not-held_ok.false in
-    let e = machine_is _ _ _ _ _ _ c.dims_of-d.ensures c.memory_of-memory.ensures
-    c.copies_of-lines.ensures c.copies_of-entries.ensures c.flags_of-flags.ensures in
-    ran_some _ ok _ _ _ c.dims_of-d.ensures _ e _ _ c.run_lent-h.ensures (omega (arith, c.if-h-ne0.true)) _ c.put_parts.ensures
-
-pub returns-else-h-ne0 : goal.returns-else-h-ne0
-returns-else-h-ne0 c =
-    let ok = sym c.held_ok.ensures ∙ c.if-not-held_ok.false in
-    let e = machine_is _ _ _ _ _ _ c.dims_of-d.ensures c.memory_of-memory.ensures
-    c.copies_of-lines.ensures c.copies_of-entries.ensures c.flags_of-flags.ensures in
-    ran_none _ ok _ _ _ c.dims_of-d.ensures _ e _ _ c.run_lent-h.ensures c.if-h-ne0.false
+pub returns-else-count-ne0-clause-run : goal.returns-else-count-ne0-clause-run
+returns-else-count-ne0-clause-run c =
+    ran_none _ (sym c.held_ok.ensures ∙ c.if-not-held_ok.false) _ _ _ c.dims_of.ensures _ c.read_caches.ensures _ _ c.run_lent-ended.ensures.run
+    _ (ap (λ p. p.0) c.in_numbers-count.ensures) _ (ap (λ p. p.1) c.in_numbers-count.ensures) c.if-count-ne0.false

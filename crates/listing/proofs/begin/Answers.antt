@@ -1,6 +1,12 @@
-use Rattle.listing.proofs.Beginning.{begun_zero}
+use Rattle.std.proofs.Common.{arith, rules}
+use Rattle.listing.proofs.Beginning.{begun_zero, begun_refused}
 use Rattle.listing.proofs.begin.Goals as goal
 
-pub returns : goal.returns
-returns c =
-    begun_zero _ _ _ _ _ c.lent_words-n.ensures.upper_bound c.lent_words-n.ensures.value c.make-made.ensures c.begin_at-place.ensures
+pub returns-in-Ok : goal.returns-in-Ok
+returns-in-Ok c =
+    begun_zero _ _ _ _ _ (omega (arith, c.min-n.ensures)) (λ h. omega (arith, c.min-n.ensures, h)) c.in-Ok.ensures c.begin_at.ensures
+
+pub returns-in-Err : goal.returns-in-Err
+returns-in-Err c =
+    rw c.smallest.ensures
+    (begun_refused _ _ _ _ _ (omega (arith, c.min-n.ensures)) (λ h. omega (arith, c.min-n.ensures, h)) c.in-Err.ensures (search rules))

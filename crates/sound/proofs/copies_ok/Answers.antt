@@ -5,10 +5,10 @@ pub returns : goal.returns
 unfolding copies_ok
 returns c =
     rw (
-      ← c.mark_all.ensures,
-      ← c.mark_all-2.ensures,
-      ← c.own_all.ensures,
-      ← c.own_all-2.ensures,
+      ← c.note_all.ensures.marks,
+      ← c.note_all.ensures.owners,
+      ← c.note_all-2.ensures.marks,
+      ← c.note_all-2.ensures.owners,
       c.lines_ok.ensures,
       c.entries_ok.ensures,
     )

@@ -1,7 +1,7 @@
 use Rattle.listing.proofs.Fitting.{answer_written}
 use Rattle.listing.proofs.lines.write_answer.Goals as goal
 
-pub returns : goal.returns
-returns c =
-    answer_written _ _ _ _ _ _ _ _ _ _ _ c.requires c.put_number-a.ensures c.put_name-b.ensures c.printed.ensures c.put_number-c.ensures
-    c.put_bytes-d.ensures c.cycles.ensures c.put_number-e.ensures c.put_bytes.ensures
+pub returns-clause-value : goal.returns-clause-value
+returns-clause-value c =
+    answer_written _ _ _ _ _ _ _ _ _ _ _ _ c.requires c.put_number.ensures.value c.name_field.ensures c.put_bytes.ensures.value c.printed.ensures
+    c.put_number-2.ensures.value c.put_bytes-2.ensures.value c.cycles.ensures c.put_number-3.ensures.value c.put_bytes-3.ensures.value

@@ -1,22 +1,27 @@
-use Rattle.std.proofs.Common.{sym, ◌∙◌}
-use Rattle.listing.proofs.Doing.{fill_starts, ended_lines, ended_room, went_on, less}
+use Rattle.std.proofs.Common.{sym, ◌∙◌, refl, rules}
+use Rattle.listing.proofs.Doing.{fill_starts, ended_in, ended_lines, ended_room, went_on, less}
 use Rattle.listing.proofs.pieces.fill.Goals as goal
+use Rattle.listing.proofs.pieces.fill.Goals.{then-lines-test+else-has_room, else-lines-test}
 
-pub loop-x-init : goal.loop-x-init
-loop-x-init c = fill_starts _ _ _ _
+pub lines-init : goal.lines-init
+lines-init c = record { same_buffer = refl; filled = fill_starts _ _ _ _ }
 
-pub returns-then-x-ge-NOTHING : goal.returns-then-x-ge-NOTHING
-returns-then-x-ge-NOTHING c = ended_lines c.args.s.now c.args.d _ _ _ _ _ c.loop-x.invariant c.if-x-ge-NOTHING.true
+pub lines-smaller : goal.lines-smaller
+lines-smaller c = less c.args.s.now c.args.d _ _ _ _ (sym c.goes_on.ensures ∙ c.lines-test.true) _ _ _ _ c.do_line-x.ensures.line
 
-pub returns-then-not-has_room : goal.returns-then-not-has_room
-returns-then-not-has_room c =
-    ended_room c.args.s.now c.args.d _ _ _ _ _ c.loop-x.invariant (rw c.loop-x.auto.out (sym c.has_room.ensures ∙ c.if-not-has_room.true))
+pub lines-preserved : goal.lines-preserved
+lines-preserved c = record {
+  same_buffer = c.do_line-x.ensures.same_buffer ∙ c.lines.invariant.same_buffer;
+  filled =
+      went_on c.args.s.now c.args.d _ _ _ _ _ c.lines.invariant.filled (sym c.goes_on.ensures ∙ c.lines-test.true)
+      (sym c.has_room.ensures ∙ c.if-has_room.true) _ c.do_line-x.ensures.line;
+}
 
-pub loop-x-smaller : goal.loop-x-smaller
-loop-x-smaller c = less c.args.s.now c.args.d _ _ _ _ c.if-x-ge-NOTHING.false _ _ _ _ c.do_line-l.ensures
-
-pub loop-x-preserved : goal.loop-x-preserved
-loop-x-preserved c =
-    went_on c.args.s.now c.args.d _ _ _ _ _ c.loop-x.invariant c.if-x-ge-NOTHING.false
-    (rw c.loop-x.auto.out (sym c.has_room.ensures ∙ c.if-not-has_room.false))
-    _ c.do_line-l.ensures
+pub returns : goal.returns
+returns c =
+    ended_in c.args.s.now c.args.d c.lines.x c.lines.c c.lines.page.used c.lines.page.bytes.now _ _ (search rules)
+    (elim c.lines-test.branch [
+      | then-lines-test+else-has_room w ↦
+          ended_room c.args.s.now c.args.d _ _ _ _ _ c.lines.invariant.filled (sym w.has_room.ensures ∙ w.if-has_room.false)
+      | else-lines-test w ↦ ended_lines c.args.s.now c.args.d _ _ _ _ _ c.lines.invariant.filled (sym c.goes_on.ensures ∙ w.lines-test.false)
+    ])

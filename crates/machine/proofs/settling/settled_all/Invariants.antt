@@ -1,14 +1,8 @@
-use mathlib.Core.Path.{◌≡◌}
-use Prim.Native.Nat.{◌≤◌, ◌-◌}
+use Rattle.std.proofs.Common.{◌≡◌, ◌-◌}
 use Rattle.laws.specs.Fold.{fold_range}
-use Rattle.rules.specs.State.{caches}
 use Rattle.rules.specs.Step.{settle_turn, settled_all}
 use Rattle.machine.proofs.settling.settled_all.Given as goal
 
-abbrev pub invariant-loop-a : goal.invariant-loop-a
-invariant-loop-a l =
-    (l.a ≤ l.d.words) ×
-    (fold_range (settle_turn l.d (caches l.memory l.lines l.entries l.flags)) l.a (l.d.words - l.a) l.values ≡ settled_all l.d (caches l.memory l.lines l.entries l.flags))
-
-abbrev pub decreases-loop-a : goal.decreases-loop-a
-decreases-loop-a l = l.d.words - l.a
+abbrev pub invariant-loop-word : goal.invariant-loop-word
+invariant-loop-word l =
+    fold_range (settle_turn l.d l.c) l.word (l.d.words - l.word) l.values ≡ settled_all l.d l.c

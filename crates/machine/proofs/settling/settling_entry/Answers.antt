@@ -1,25 +1,13 @@
-use Rattle.rules.specs.Settled.{settling_entry}
-use mathlib.Core.Path.{◌∙◌, sym}
-use native.Mathlib.Nat.{sub-zero}
-use native.Mathlib.Omega.{arith}
-use Rattle.laws.specs.Search.{first_end, first_hit, first_miss}
-use borrow.Author.Rules.{rules}
+use Rattle.std.proofs.Common.{◌≡◌, true, false, rules, arith}
+use Rattle.std.proofs.lemmas.Iterator.{first_from_Range}
+use Rattle.rules.specs.Settled.{has_settling, settling_entry}
+use Rattle.caches.proofs.Found.{found}
 use Rattle.machine.proofs.settling.settling_entry.Goals as goal
 
-pub loop-i-init : goal.loop-i-init
+pub returns : goal.returns
 unfolding settling_entry
-loop-i-init c = (search rules, rw sub-zero)
-
-pub loop-i-preserved : goal.loop-i-preserved
-loop-i-preserved c =
-    let settles = rw c.unpack-e.ensures at c.is_settling.ensures in
-    (search rules, sym (first_miss _ _ _ (search rules) (sym settles ∙ c.if-is_settling.false)) ∙ c.loop-i.invariant.1)
-
-pub returns-then-i-n : goal.returns-then-i-n
-returns-then-i-n c = (omega arith) ∙ sym (first_end _ _ _ (search rules)) ∙ c.loop-i.invariant.1
-
-pub returns-then-is_settling : goal.returns-then-is_settling
-returns-then-is_settling c =
-    sym
-    (first_hit _ _ _ (search rules) (sym (rw c.unpack-e.ensures at c.is_settling.ensures) ∙ c.if-is_settling.true)) ∙
-    c.loop-i.invariant.1
+returns c =
+    let x = c.args in
+    let p = has_settling x.c.now.entries x.q x.word in
+    found p 0 x.d.entries _ (λ k a b. absurd (omega arith))
+    (first_from_Range _ _ _ _ (λ i. p i ≡ true) (λ i. p i ≡ false) c.find.ensures.ran (λ i q k. search rules) (λ i q k. search rules))

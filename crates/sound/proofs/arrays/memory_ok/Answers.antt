@@ -1,18 +1,19 @@
-use borrow.Author.Tests.{ne_eqb, eq-eqb}
-use mathlib.Core.Path.{◌∙◌, sym}
-use Rattle.laws.specs.Search.{first_miss}
-use Rattle.sound.proofs.Every.{every_stopped, every_ended}
-use Rattle.rules.specs.SoundTest.{memory_ok}
-use borrow.Author.Rules.{rules}
+use Rattle.std.proofs.Common.{rules, tests, ℕ, Bool, eqb, ◌∙◌}
+use borrow.Author.Tests.{lt-leb}
+use Rattle.rules.specs.SoundTest.{bad_word, memory_ok}
+use Rattle.std.proofs.lemmas.Iterator.{YieldsList-from_slice}
+use Rattle.std.proofs.lemmas.Iterator.Search.{all_from_yields_List}
+use Rattle.sound.proofs.Every.{every_past, every_rest}
 use Rattle.sound.proofs.arrays.memory_ok.Goals as goal
 
-pub returns-then-memory-j-ne0 : goal.returns-then-memory-j-ne0
+pub returns-then-words-le256 : goal.returns-then-words-le256
 unfolding memory_ok
-returns-then-memory-j-ne0 c = every_stopped _ _ 256 _ c.loop-j.invariant (search rules) (rw (ne_eqb _ _ c.if-memory-j-ne0.true))
+returns-then-words-le256 c =
+    let test : ℕ → Bool = λ x. eqb x 0 in
+    all_from_yields_List test _ _ c.all.result c.all.ensures.ran (YieldsList-from_slice _ c.iter.ensures.rest)
+    (λ x b q k. search (rules, tests)) ∙ every_rest test c.args.memory.now c.args.words 256 (search rules) (search rules)
 
-pub loop-j-preserved : goal.loop-j-preserved
-loop-j-preserved c = sym (first_miss _ _ _ (search rules) (rw (eq-eqb _ _ c.if-memory-j-ne0.false))) ∙ c.loop-j.invariant
-
-pub returns : goal.returns
+pub returns-else-words-le256 : goal.returns-else-words-le256
 unfolding memory_ok
-returns c = every_ended _ _ 256 _ c.loop-j.invariant (search rules)
+returns-else-words-le256 c =
+    rw (lt-leb _ _ c.if-words-le256.false) (every_past (bad_word c.args.memory.now) c.args.words 256 c.if-words-le256.false)

@@ -1,26 +1,20 @@
-use mathlib.Core.Path.{◌∙◌, sym}
-use borrow.Author.Tests.{lt-ltb, le-ltb}
-use lib.ListN.{length}
-use Rattle.laws.specs.Search.{first_end, first_hit, first_miss}
-use Rattle.text.specs.Names.{step_names, named_step}
-use borrow.Author.Rules.{rules}
+use Rattle.std.proofs.Common.{◌∙◌, sym, ap, map, refl, rules, tests}
+use Rattle.std.proofs.lemmas.Iterator.{YieldsList-from_slice}
+use Rattle.std.proofs.lemmas.Iterator.Search.{position_from_yields_List}
+use Rattle.std.specs.Slice.Iter.{iter_rest}
+use Rattle.text.proofs.Parts.{is_it, step_named}
 use Rattle.text.proofs.names.step_of.Goals as goal
 
-pub returns-then-k-gt-INTERRUPT : goal.returns-then-k-gt-INTERRUPT
-unfolding named_step
-returns-then-k-gt-INTERRUPT c =
-    let k = c.loop-k.k in
-    rw (sym c.loop-k.invariant.1 ∙ first_end _ k (length step_names) (search rules), le-ltb k (length step_names) (search rules))
+pub returns-in_err-number : goal.returns-in_err-number
+returns-in_err-number c =
+    c.from_residual.ensures ∙ sym c.in_err-number.was
+    ∙ position_from_yields_List (is_it c.args.op.now) _ _ _ c.position.ensures.ran
+    (YieldsList-from_slice (iter_rest c.iter.result) refl) (λ x b q k. search (rules, tests))
+    ∙ step_named (iter_rest c.iter.result) c.args.op.now (ap (map (λ x. x.now)) c.iter.ensures.rest)
 
-pub returns-then-is_name : goal.returns-then-is_name
-unfolding named_step
-returns-then-is_name c =
-    let l = c.loop-k in
-    let hit = first_hit _ l.k (length step_names) (search rules) (sym c.is_name.ensures ∙ c.if-is_name.true) in
-    rw (sym l.invariant.1 ∙ hit, lt-ltb l.k (length step_names) (search rules))
-
-pub loop-k-preserved : goal.loop-k-preserved
-loop-k-preserved c =
-    let l = c.loop-k in
-    let miss = first_miss _ l.k (length step_names) (search rules) (sym c.is_name.ensures ∙ c.if-is_name.false) in
-    (search rules, sym miss ∙ l.invariant.1)
+pub returns : goal.returns
+returns c =
+    sym c.in_ok-number.was
+    ∙ position_from_yields_List (is_it c.args.op.now) _ _ _ c.position.ensures.ran
+    (YieldsList-from_slice (iter_rest c.iter.result) refl) (λ x b q k. search (rules, tests))
+    ∙ step_named (iter_rest c.iter.result) c.args.op.now (ap (map (λ x. x.now)) c.iter.ensures.rest)
