@@ -1,17 +1,16 @@
 -- What a processor's first NORMAL or tentative entry of a word says of its entries of either tag. Assumes nothing.
-use mathlib.Core.Path.{◌≡◌, refl, ◌∙◌, sym, subst}
+use mathlib.Core.Path.{◌≡◌, refl, ◌∙◌, sym}
 use mathlib.Core.Bool.{Bool, true, false, false≢true}
 use mathlib.Core.List.{List}
 use Prim.Native.Nat.{ℕ, ◌≤◌, ◌<◌}
 use native.Mathlib.Omega.{arith}
-use borrow.Author.Tests.{eq-eqb, eqb-true, lt-ltb, le-ltb, ltb-true, ltb-false}
-use lib.Dec.{eqb, ltb}
-use Rattle.laws.specs.Choice.{pick, both, either, both_left, both_right}
+use borrow.Author.Tests.{eq-eqb, eqb-true, lt-ltb, le-ltb}
+use lib.Dec.{eqb}
+use Rattle.laws.specs.Choice.{both, either, both_left, both_right}
 use Rattle.laws.specs.Search.{first_from, first_has, first_not, none_of}
 use Rattle.entry.specs.Numbers.{NORMAL, TENTATIVE}
 use Rattle.rules.specs.State.{copy_at}
 use Rattle.rules.specs.Own.{has_entry, has_live, find_entry, live_entry}
-use Rattle.caches.specs.declared.Own.{Own}
 use Rattle.caches.specs.declared.Own.TheVariants.{Tentative, Normal, Nowhere}
 use Rattle.caches.specs.Own.{own_entry}
 use Rattle.caches.proofs.Found.{first_at}
@@ -98,31 +97,3 @@ module _ (es : List ℕ) (p n word : ℕ) where
   pub own_behind : find_entry es p n TENTATIVE word < n → own_entry es p n word ≡ Tentative (find_entry es p n TENTATIVE word)
   unfolding own_entry
   own_behind h = rw (lt-ltb (find_entry es p n TENTATIVE word) n h)
-
-  -- what an own entry says of the two tags
-  abbrev Told : Own → Type 0
-  Told (Tentative i) = (find_entry es p n TENTATIVE word < n) × (find_entry es p n TENTATIVE word ≡ i)
-  Told (Normal i) =
-      (n ≤ find_entry es p n TENTATIVE word) × (find_entry es p n NORMAL word < n) × (find_entry es p n NORMAL word ≡ i)
-  Told Nowhere = (n ≤ find_entry es p n TENTATIVE word) × (n ≤ find_entry es p n NORMAL word)
-
-  told : Told (own_entry es p n word)
-  unfolding own_entry
-  told = by (ltb (find_entry es p n TENTATIVE word) n) (ltb (find_entry es p n NORMAL word) n) refl refl
-    where
-      by : (a b : Bool) → ltb (find_entry es p n TENTATIVE word) n ≡ a → ltb (find_entry es p n NORMAL word) n ≡ b →
-          Told (pick a (Tentative (find_entry es p n TENTATIVE word)) (pick b (Normal (find_entry es p n NORMAL word)) Nowhere))
-      by true b e f = (ltb-true _ n e, refl)
-      by false true e f = (ltb-false _ n e, ltb-true _ n f, refl)
-      by false false e f = (ltb-false _ n e, ltb-false _ n f)
-
-  pub tentative_own : (i : ℕ) → Tentative i ≡ own_entry es p n word →
-      (find_entry es p n TENTATIVE word < n) × (find_entry es p n TENTATIVE word ≡ i)
-  tentative_own i e = subst Told (sym e) told
-
-  pub normal_own : (i : ℕ) → Normal i ≡ own_entry es p n word →
-      (n ≤ find_entry es p n TENTATIVE word) × (find_entry es p n NORMAL word < n) × (find_entry es p n NORMAL word ≡ i)
-  normal_own i e = subst Told (sym e) told
-
-  pub no_own : Nowhere ≡ own_entry es p n word → (n ≤ find_entry es p n TENTATIVE word) × (n ≤ find_entry es p n NORMAL word)
-  no_own e = subst Told (sym e) told

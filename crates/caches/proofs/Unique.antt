@@ -3,10 +3,8 @@
 use Rattle.laws.specs.OneAnswer.{OneAnswer}
 use mathlib.Core.Path.{◌∙◌, sym}
 use Rattle.rules.specs.State.{counted}
-use Rattle.caches.proofs.home.Reads as home-reads
 use Rattle.caches.proofs.holds.Reads as holds-reads
-use Rattle.caches.proofs.find_tentative.Reads as find-tentative-reads
-use Rattle.caches.proofs.find_normal.Reads as find-normal-reads
+use Rattle.caches.proofs.find_entry.Reads as find-entry-reads
 use Rattle.caches.proofs.live_entry.Reads as live-entry-reads
 use Rattle.caches.proofs.own_entry.Reads as own-entry-reads
 use Rattle.caches.proofs.free_slot.Reads as free-slot-reads
@@ -16,17 +14,11 @@ use Rattle.caches.proofs.write_back.Reads as write-back-reads
 use Rattle.caches.proofs.clear_line.Reads as clear-line-reads
 use Rattle.caches.proofs.clear_entry.Reads as clear-entry-reads
 
-pub home_unique : OneAnswer home-reads.Post (λ κs r s. r)
-home_unique κs a r r' s s' p q = p ∙ sym q
-
 pub holds_unique : OneAnswer holds-reads.Post (λ κs r s. r)
 holds_unique κs a r r' s s' p q = p ∙ sym q
 
-pub find_tentative_unique : OneAnswer find-tentative-reads.Post (λ κs r s. r)
-find_tentative_unique κs a r r' s s' p q = p ∙ sym q
-
-pub find_normal_unique : OneAnswer find-normal-reads.Post (λ κs r s. r)
-find_normal_unique κs a r r' s s' p q = p ∙ sym q
+pub find_entry_unique : OneAnswer find-entry-reads.Post (λ κs r s. r)
+find_entry_unique κs a r r' s s' p q = p ∙ sym q
 
 pub live_entry_unique : OneAnswer live-entry-reads.Post (λ κs r s. r)
 live_entry_unique κs a r r' s s' p q = p ∙ sym q

@@ -6,10 +6,9 @@ ghost use Rattle.std.specs.Prelude.{◌≡◌, Bool, ℕ, ◌<◌, ◌^◌};
 ghost use Rattle.laws.specs.Search.{first_from};
 ghost use Rattle.entry.specs.Copy.{Fields};
 ghost use Rattle.entry.specs.Kinds.{tag_number};
-ghost use Rattle.entry.specs.Numbers.{NORMAL, TENTATIVE};
 ghost use Rattle.entry.specs.Packing.{no_entry, unpack};
 ghost use Rattle.rules.specs.State.{caches, copy_at, with_copy, line_at, entry_at, with_memory, counted};
-ghost use Rattle.rules.specs.Own.{home, holds, find_entry, is_free, lowest, free_slot, live_entry};
+ghost use Rattle.rules.specs.Own.{holds, find_entry, is_free, lowest, free_slot, live_entry};
 ghost use Rattle.rules.specs.Rollback.{repacked, over_entries, rollback, committed_entries};
 ghost use Rattle.rules.specs.Snoop.{written_back, writes, clear_line, clear_entry};
 ghost use Rattle.caches.specs.Own.{below, own_entry};
@@ -24,15 +23,6 @@ pub enum Own {
     Tentative(usize),
     Normal(usize),
     Nowhere,
-}
-
-// A machine of no lines is never made; the remainder by 0 is the word itself, as in the definition.
-#[tactic(auto, unfolding(rules::specs::Own::home))]
-pub fn home(d: Dims, word: u8) -> usize
-    ensures { result ≡ home d word }
-{
-    let w = usize::from(word);
-    if d.lines == 0 { w } else { w % d.lines }
 }
 
 pub fn holds(e: Entry, word: u8) -> bool
@@ -54,34 +44,21 @@ fn first_entry<K: Copy, F: Fn(u64, K) -> bool>(
     requires tests { (x : ℕ) (b : Bool) → x < 2 ^ 64 → F.post test x key b → b ≡ has (unpack x) key }
     ensures { result ≡ below d.entries (first_from (λ i. has (entry_at c.now p i) key) 0 d.entries) }
 {
-    let base = p % 8 * 64;
+    let base = place(p, 0);
     let own = &c.entries[base..base + d.entries.min(64)];
     own.iter().position(|x| test(*x, key))
 }
 
 #[tactic(auto, unfolding(rules::specs::Own::find_entry))]
-pub fn find_tentative(c: &Caches, d: Dims, p: usize, word: u8) -> Option<usize>
-    ensures { result ≡ below d.entries (find_entry c.now.entries p d.entries TENTATIVE word) }
+pub fn find_entry(c: &Caches, d: Dims, p: usize, tag: Tag, word: u8) -> Option<usize>
+    ensures { result ≡ below d.entries (find_entry c.now.entries p d.entries (tag_number tag) word) }
 {
     first_entry(
         c,
         d,
         p,
-        word,
-        |x, word| packed::is_entry(x, Tag::Tentative, word),
-    )
-}
-
-#[tactic(auto, unfolding(rules::specs::Own::find_entry))]
-pub fn find_normal(c: &Caches, d: Dims, p: usize, word: u8) -> Option<usize>
-    ensures { result ≡ below d.entries (find_entry c.now.entries p d.entries NORMAL word) }
-{
-    first_entry(
-        c,
-        d,
-        p,
-        word,
-        |x, word| packed::is_entry(x, Tag::Normal, word),
+        (tag, word),
+        |x, (tag, word)| packed::is_entry(x, tag, word),
     )
 }
 
@@ -102,7 +79,7 @@ pub fn own_entry(c: &Caches, d: Dims, p: usize, word: u8) -> Own
     if c.entry_at(p, i).tag == Tag::Tentative {
         return Own::Tentative(i);
     }
-    match find_tentative(c, d, p, word) {
+    match find_entry(c, d, p, Tag::Tentative, word) {
         Some(k) => Own::Tentative(k),
         None => Own::Normal(i),
     }
@@ -130,6 +107,7 @@ fn lowest(c: &Caches, d: Dims, p: usize, tag: Tag, taken: usize) -> Option<usize
     }
 }
 
+// taken is the number of entries where no slot is taken: so the definition free_slot has it.
 #[tactic(auto, unfolding(rules::specs::Own::free_slot))]
 pub fn free_slot(c: &Caches, d: Dims, p: usize, taken: usize) -> Option<usize>
     ensures { result ≡ below d.entries (free_slot c.now.entries p d.entries taken) }
@@ -152,6 +130,7 @@ fn each_entry<F: Fn(u64) -> u64>(entries: &mut Copies, d: Dims, p: usize, f: F)
     }
 }
 
+// TSTATUS of p becomes false: its flag stands at the definition status_place, as C's array has it.
 #[tactic(auto, unfolding(rules::specs::Rollback::rolled_entries, rules::specs::Rollback::status_down))]
 pub fn rollback(c: &mut Caches, d: Dims, p: usize)
     ensures { c.new ≡ rollback d p c.old }

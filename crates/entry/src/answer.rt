@@ -2,12 +2,14 @@
 
 ghost use Rattle.std.specs.Prelude.{◌≡◌, ◌+◌};
 ghost use Rattle.entry.specs.Answer.{answer_number, answer_value, refusal_number, is_refusal, quiet, asked, cycles_of, answered, no_cycles, refused_by};
+ghost use Rattle.entry.specs.declared.answer.Answer.TheVariants.{Refused};
 ghost use Rattle.entry.specs.Kinds.{cycle_number};
 ghost use Rattle.entry.specs.Refusals.{number_of};
 
 use crate::numbers::Cycle;
 use crate::refusals::Refusal;
 
+// A refusal is its number here: definitions compute it as one (refused_by, take_step), and Took, of demand 3, compares it.
 #[derive(Clone, Copy)]
 pub enum Answer {
     Value(u32),
@@ -38,6 +40,7 @@ pub struct Answered {
 }
 
 impl Answer {
+    // The number that a column holds: answer_number.
     pub fn number(self) -> u8
         ensures { result ≡ answer_number self }
     {
@@ -63,7 +66,7 @@ impl Answer {
         }
     }
 
-    // 0 where the answer is no refusal.
+    // 0 where the answer is no refusal: refusal_number, which a column holds too.
     pub fn refusal(self) -> u8
         ensures { result ≡ refusal_number self }
     {
@@ -90,7 +93,7 @@ impl Answered {
         }
     }
 
-    // A refusal gives its number, and zero counts.
+    // A refusal gives its number, and zero counts. Promised for every number: refused_by.
     pub fn refused(number: u8) -> Answered
         ensures { result ≡ refused_by number }
     {
@@ -98,11 +101,19 @@ impl Answered {
     }
 }
 
+impl From<Refusal> for Answer {
+    ghost from_gives = { λ refusal answer. answer ≡ Refused (number_of refusal) };
+
+    fn from(refusal: Refusal) -> Answer {
+        Answer::Refused(refusal.into())
+    }
+}
+
 impl From<Refusal> for Answered {
     ghost from_gives = { λ refusal told. told ≡ refused_by (number_of refusal) };
 
     fn from(refusal: Refusal) -> Answered {
-        Answered::refused(refusal.into())
+        Answered::quiet(refusal.into())
     }
 }
 

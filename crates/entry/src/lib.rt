@@ -67,12 +67,13 @@ impl Entry {
         }
     }
 
+    // No From: pack and unpack are the definitions' names, and not every number is a copy.
     pub fn unpack(x: u64) -> Entry
         ensures { result ≡ unpack x }
     {
         Entry {
             state: State::from((x / 4294967296 / 256 / 4 % 4) as u8),
-            tag: Tag::from((x / 4294967296 / 256 % 4) as u8),
+            tag: packed::tag_of(x),
             word: (x / 4294967296 % 256) as u8,
             data: (x % 4294967296) as u32,
         }

@@ -1,5 +1,5 @@
-// The kinds that document 01 names, each in the order of its numbers. What stands behind them is promised for every number, as a byte from outside
-// may hold: Other is one that no copy, request or step has, by how far it lies above the last that has a name.
+// The kinds that document 01 names, each in the order of its numbers. Functions over them are promised for every byte (docs/PROMISES.md): Other is
+// one that no copy, request or step has, by how far it lies above the last that has a name.
 
 ghost use Rattle.std.specs.Prelude.{◌≡◌};
 ghost use Rattle.entry.specs.Kinds.{state_number, tag_number, cycle_number, step_number};

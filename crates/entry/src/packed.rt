@@ -16,13 +16,14 @@ pub fn tag_of(x: u64) -> Tag
     Tag::from((x / 4294967296 / 256 % 4) as u8)
 }
 
+// docs/PROMISES.md names it.
 pub fn has_word(x: u64, word: u8) -> bool
     ensures { result ≡ eqb (unpack x).word word }
 {
     x / 4294967296 % 256 == u64::from(word)
 }
 
-// An entry with the tag and the word.
+// An entry with the tag and the word. By one comparison, as is_live: has_word and then the tag made a run on 8/256/64/64 1.4 times as long.
 pub fn is_entry(x: u64, tag: Tag, word: u8) -> bool
     ensures { result ≡ is_entry (unpack x) (tag_number tag) word }
 {

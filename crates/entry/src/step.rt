@@ -5,7 +5,7 @@ ghost use Rattle.entry.specs.Step.{uses_word};
 
 use crate::numbers::Op;
 
-// The step's number is as it was handed in: numbers::Op has those that there are.
+// op is a number: one that is no step may be handed in, and is refusal 6. numbers::Op has those that there are.
 #[derive(Clone, Copy)]
 pub struct Step {
     pub op: u8,

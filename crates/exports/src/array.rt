@@ -39,6 +39,7 @@ pub(crate) fn held_ok(state: &State) -> bool
         & none_above(0, &state[ENTRIES_END..])
 }
 
+// By `as`: the array, the C interface, holds 64-bit numbers, and neither From nor Into joins u64 and usize.
 pub(crate) fn dims_of(state: &State) -> Dims
     ensures { result ≡ dims_in state.now }
 {
@@ -101,6 +102,7 @@ pub(crate) fn put_caches(state: &mut State, c: &Caches)
     put_copies(&c.entries, &mut state[ENTRIES_FROM..ENTRIES_END]);
 }
 
+// By `as`, as in dims_of: the array, the C interface, holds 64-bit numbers, and From has nothing from usize to u64.
 #[tactic(auto, unfolding(crate::specs::Array::array_of, crate::specs::Array::blank))]
 pub(crate) fn put_machine(state: &mut State, m: &Machine)
     ensures { state.new ≡ array_of m.now }

@@ -24,6 +24,7 @@ use runs::{Columns, Halt, Steps};
 const ACCEPTED: u8 = 0;
 
 // initial is the memory that the caller gives. What the array held before does not matter.
+// Its parameters are those that C hands exports_c, under the names of include/stirnfeld.h.
 #[tactic(auto, unfolding(crate::specs::Handed::make_in))]
 pub fn stirnfeld_make(
     processors: usize,
@@ -99,6 +100,7 @@ pub fn stirnfeld_run(
 
 // told becomes the answer's number, its value, and the six counts. The step is a run of one place: so the library has one call of the machine's
 // steps, and the compiler writes them out in the run's loop.
+// Its parameters are those that C hands exports_c, under the names of include/stirnfeld.h.
 pub fn stirnfeld_step(
     state: &mut State,
     op: u8,

@@ -12,6 +12,7 @@ ghost use Rattle.exports.specs.Handed.{handed, make_in, sound_in, step_lent, ste
 use exports::State;
 use runs::{Columns, Steps};
 
+// C hands each number by itself: include/stirnfeld.h names them.
 #[unsafe(no_mangle)]
 pub extern "C" fn stirnfeld_make(
     processors: usize,
@@ -74,6 +75,7 @@ pub extern "C" fn stirnfeld_run(
     exports::stirnfeld_run(state, &steps, &mut columns, taken)
 }
 
+// C hands the step's four numbers, each by itself: include/stirnfeld.h names them.
 #[unsafe(no_mangle)]
 pub extern "C" fn stirnfeld_step(
     state: &mut State,

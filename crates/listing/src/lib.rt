@@ -14,7 +14,7 @@ ghost use Rattle.listing.specs.Replay.{piece_left_by, begin_of, next_piece};
 use crate::places::Place;
 use rules::{Dims, Machine};
 
-// What stands between two pieces.
+// What stands between two pieces. The text s comes beside it, here and below, as it does in next_piece, of which docs/PROMISES.md speaks.
 #[derive(Clone, Copy)]
 pub struct Replaying {
     place: Place,
@@ -22,6 +22,7 @@ pub struct Replaying {
 }
 
 // used bytes of the buffer were written; none where the listing is whole, or the buffer has fewer than 72.
+// A number and no Option: the definition next_piece, of which docs/PROMISES.md speaks, counts so, as who writes them on needs it.
 #[derive(Clone, Copy)]
 pub struct Piece {
     pub used: usize,

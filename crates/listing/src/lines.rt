@@ -35,6 +35,8 @@ fn printed(answer: Answer) -> u64
     }
 }
 
+// HasRoom is asked and is no type's invariant: it holds before a line and need not after it.
+// No Display: it would write these same pieces to a Formatter, and a Page would need a Write that promises put_of, beside put_bytes.
 pub(crate) fn write_answer(page: &mut Page<'_>, number: u64, told: Answered)
     requires { HasRoom page.old }
     ensures same_buffer { SameBuffer page.new page.old }

@@ -10,7 +10,8 @@ use text::writing;
 // No line is longer.
 const LINE_MOST: usize = 72;
 
-// The first used bytes are written.
+// The first used bytes are written. No Cursor: one writes what fits of a text, the definition put_of the whole or nothing.
+// SameBuffer in the contracts: who is lent a Page could put another buffer into it, and the lender's would stay unwritten.
 #[derive(Drop)]
 pub(crate) struct Page<'a> {
     pub(crate) bytes: &'a mut [u8],

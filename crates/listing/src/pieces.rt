@@ -12,12 +12,14 @@ use entry::answer::Answered;
 use rules::{Caches, Dims};
 
 // Where the replay stands, and how much of the buffer is written.
+// A Piece is this with the machine: a type generic in what stands there would show its users a parameter for this one use.
 #[derive(Clone, Copy)]
 pub struct Reached {
     pub place: Place,
     pub used: usize,
 }
 
+// Five parameters, here and below: look_at, answer_of and do_other take a part each, so a struct of them would be taken apart in every one.
 fn do_record(s: &[u8], page: &mut Page<'_>, c: &mut Caches, d: Dims, x: Place) -> Place
     requires { HasRoom page.old }
     ensures same_buffer { SameBuffer page.new page.old }
@@ -51,6 +53,7 @@ fn do_other(s: &[u8], page: &mut Page<'_>, c: &Caches, x: Place) -> Place
     }
 }
 
+// Matched on the phase here and in do_other since the definitions do_line and do_other choose so.
 #[tactic(auto, unfolding(crate::specs::Listing::do_line))]
 fn do_line(s: &[u8], page: &mut Page<'_>, c: &mut Caches, d: Dims, x: Place) -> Place
     requires { HasRoom page.old }

@@ -60,7 +60,7 @@ impl Place {
         self.phase != Phase::Nothing
     }
 
-    // The refusal's number, 0 where there is none.
+    // The refusal's number, 0 where there is none: the definition do_other tells refused_by x.refusal.
     pub(crate) fn refusal(self) -> u8
         ensures { result ≡ self.refusal }
     {
@@ -68,7 +68,7 @@ impl Place {
     }
 }
 
-// Past a record's CRLF, if it has one.
+// Past a record's CRLF, if it has one. Text and place, here and in phase_at: the definitions past and phase_at answer for every place.
 #[tactic(auto, unfolding(crate::specs::Place::past))]
 pub(crate) fn past(s: &[u8], end: usize) -> usize
     ensures { result ≡ past s.now end }

@@ -18,6 +18,7 @@ use text::records::{Parsed, read_record, record_end};
 const BYTES_MOST: usize = 4194304;
 
 // Where the next record begins, and the fields of this one.
+// No Model: looked_by differs from it in a refusal's number alone, and a Model would need an inverse and its proof besides.
 #[derive(Clone, Copy)]
 pub struct Looked {
     pub next: usize,

@@ -54,10 +54,10 @@ pub fn settled(m: Machine, word: u32) -> Answer
     ensures { result ≡ settled_of m word }
 {
     if !sound(m) {
-        return Answer::Refused(Refusal::NotSound.into());
+        return Refusal::NotSound.into();
     }
     if word as usize >= m.dims.words {
-        return Answer::Refused(Refusal::NoSuchWord.into());
+        return Refusal::NoSuchWord.into();
     }
     Answer::Value(settling::settled_in(&m.caches, m.dims, narrowed(word)))
 }

@@ -1,4 +1,4 @@
-// The settled value of a word.
+// The settled value of a word. The caches and their sizes, c and d, come apart, as its definition, settled_in, takes them.
 
 ghost use Rattle.std.specs.Prelude.{◌≡◌, ◌≤◌};
 ghost use Rattle.caches.specs.Own.{below};
@@ -45,7 +45,8 @@ fn settling_value(c: &Caches, d: Dims, i: usize, word: u8, q: usize) -> Option<u
 pub(crate) fn settled_in(c: &Caches, d: Dims, word: u8) -> u32
     ensures { result ≡ settled_in d word c.now }
 {
-    let i = caches::home(d, word);
+    let i = d.home(word);
+    // No `find_map`: it was tried, and the proof that its answer is settled_in's did not close.
     for q in 0..d.processors {
         if let Some(value) = settling_value(c, d, i, word, q) {
             return value;

@@ -15,14 +15,14 @@ ghost use Rattle.caches.specs.Own.{below};
 use caches::Own;
 use entry::Entry;
 use entry::answer::{Answer, Answered, Counts};
-use entry::numbers::{Cycle, State};
+use entry::numbers::{Cycle, State, Tag};
 use rules::{Caches, Dims};
 
 #[tactic(auto, unfolding(rules::specs::Load::load_miss))]
 fn load_miss(c: &mut Caches, d: Dims, p: usize, word: u8) -> Answered
     ensures { outcome result c.new ≡ load_miss d p word c.old }
 {
-    let home = caches::home(d, word);
+    let home = d.home(word);
     let writes = caches::clear_line(c, p, home);
     snoop::plain_request(c, d, p, word, Cycle::Read);
     let value = c.word_at(word);
@@ -34,6 +34,7 @@ fn load_miss(c: &mut Caches, d: Dims, p: usize, word: u8) -> Answered
 }
 
 // The NORMAL entry is looked for already.
+// Three contracts tell of it and no type does: one that kept the fact would have to hold c, which goes on to caches and snoop by itself.
 #[tactic(auto, unfolding(rules::specs::Load::load_on))]
 fn load_on(c: &mut Caches, d: Dims, p: usize, word: u8, normal: Option<usize>) -> Answered
     requires { normal ≡ below d.entries (find_entry c.old.entries p d.entries NORMAL word) }
@@ -49,7 +50,7 @@ fn load_on(c: &mut Caches, d: Dims, p: usize, word: u8, normal: Option<usize>) -
 pub fn load(c: &mut Caches, d: Dims, p: usize, word: u8) -> Answered
     ensures { outcome result c.new ≡ load d p word c.old }
 {
-    let line = c.line_at(p, caches::home(d, word));
+    let line = c.line_at(p, d.home(word));
     if caches::holds(line, word) {
         return Answered::quiet(Answer::Value(line.data));
     }
@@ -60,7 +61,7 @@ pub fn load(c: &mut Caches, d: Dims, p: usize, word: u8) -> Answered
                 return Answered::quiet(Answer::Value(tentative.data));
             }
             caches::rollback(c, d, p);
-            let normal = caches::find_normal(c, d, p, word);
+            let normal = caches::find_entry(c, d, p, Tag::Normal, word);
             load_on(c, d, p, word, normal)
         }
         Own::Normal(i) => load_on(c, d, p, word, Some(i)),
@@ -77,13 +78,14 @@ fn roll_own(c: &mut Caches, d: Dims, p: usize, word: u8) -> Option<usize>
     match caches::own_entry(c, d, p, word) {
         Own::Tentative(_) => {
             caches::rollback(c, d, p);
-            caches::find_normal(c, d, p, word)
+            caches::find_entry(c, d, p, Tag::Normal, word)
         }
         Own::Normal(i) => Some(i),
         Own::Nowhere => None,
     }
 }
 
+// transact's miss_at has the same match. One function for both would need a third definition beside drop_normal and clear_backup.
 #[tactic(auto, unfolding(rules::specs::Store::drop_normal))]
 fn drop_normal(c: &mut Caches, d: Dims, p: usize, word: u8, normal: Option<usize>) -> u8
     requires { normal ≡ below d.entries (find_entry c.old.entries p d.entries NORMAL word) }
@@ -95,7 +97,8 @@ fn drop_normal(c: &mut Caches, d: Dims, p: usize, word: u8, normal: Option<usize
     }
 }
 
-// What a STORE uses of its step. LOAD's p and word, with no value beside them, stand apart as in its definition and in what caches offers.
+// What a STORE uses of its step.
+// LOAD, roll_own and drop_normal use p and word one by one, without a value: a struct of two would only put x. before each use.
 #[derive(Clone, Copy)]
 struct Operands {
     p: usize,
@@ -117,7 +120,7 @@ fn store_through(c: &mut Caches, d: Dims, x: Operands, writes: u8) -> Answered
 {
     snoop::plain_request(c, d, x.p, x.word, Cycle::Write);
     c.memory[usize::from(x.word)] = x.value;
-    c.put_line(x.p, caches::home(d, x.word), x.line(State::Reserved));
+    c.put_line(x.p, d.home(x.word), x.line(State::Reserved));
     Answered {
         answer: Answer::Done,
         counts: Counts::asked(Cycle::Write, writes.into(), 0),
@@ -128,7 +131,7 @@ fn store_through(c: &mut Caches, d: Dims, x: Operands, writes: u8) -> Answered
 fn store_miss(c: &mut Caches, d: Dims, x: Operands, writes: u8) -> Answered
     ensures { outcome result c.new ≡ store_miss d x.p x.word x.value writes c.old }
 {
-    let home = caches::home(d, x.word);
+    let home = d.home(x.word);
     let evicted = caches::clear_line(c, x.p, home);
     snoop::plain_request(c, d, x.p, x.word, Cycle::Rfo);
     c.put_line(x.p, home, x.line(State::Dirty));
@@ -142,7 +145,7 @@ fn store_miss(c: &mut Caches, d: Dims, x: Operands, writes: u8) -> Answered
 fn store_line(c: &mut Caches, d: Dims, x: Operands, writes: u8) -> Answered
     ensures { outcome result c.new ≡ store_line d x.p x.word x.value (counted writes c.old) }
 {
-    let home = caches::home(d, x.word);
+    let home = d.home(x.word);
     let line = c.line_at(x.p, home);
     if !caches::holds(line, x.word) {
         return store_miss(c, d, x, writes);
@@ -157,6 +160,7 @@ fn store_line(c: &mut Caches, d: Dims, x: Operands, writes: u8) -> Answered
     }
 }
 
+// Its parameters are the definition's, of which docs/PROMISES.md speaks: Operands are made inside.
 #[tactic(auto, unfolding(rules::specs::Store::store))]
 pub fn store(c: &mut Caches, d: Dims, p: usize, word: u8, value: u32) -> Answered
     ensures { outcome result c.new ≡ store d p word value c.old }

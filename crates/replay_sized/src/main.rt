@@ -7,7 +7,8 @@ use std::process::ExitCode;
 use std::rt::Env;
 use text::decimals::read_number;
 
-// An argument that is missing or no decimal counts as 0. No decimal is longer than ten digits.
+// An argument that is missing or no decimal counts as 0, which the machine refuses. No decimal is longer than ten digits.
+// A buffer and two places: read_number takes them, since its definition field_of answers for every two. usize has no From of a u32.
 fn argument(rt: &impl Env, place: usize) -> usize {
     let mut bytes = [0u8; 16];
     let Ok(n) = rt.arg(place, &mut bytes) else {

@@ -3,6 +3,7 @@
 use Rattle.laws.specs.OneAnswer.{OneAnswer}
 use mathlib.Core.Path.{◌∙◌, sym}
 use Rattle.rules.proofs.place.Reads as place-reads
+use Rattle.rules.proofs.Dims.home.Reads as home-reads
 use Rattle.rules.proofs.Caches.line_at.Reads as line-at-reads
 use Rattle.rules.proofs.Caches.entry_at.Reads as entry-at-reads
 use Rattle.rules.proofs.Caches.word_at.Reads as word-at-reads
@@ -34,3 +35,6 @@ put_line_unique κs a r r' s s' p q = p ∙ sym q
 
 pub put_entry_unique : OneAnswer put-entry-reads.Post (λ κs r s. s.0.now)
 put_entry_unique κs a r r' s s' p q = p ∙ sym q
+
+pub home_unique : OneAnswer home-reads.Post (λ κs r s. r)
+home_unique κs a r r' s s' p q = p ∙ sym q

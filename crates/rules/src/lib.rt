@@ -4,6 +4,7 @@
 
 ghost use Rattle.std.specs.Prelude.{◌≡◌};
 ghost use Rattle.rules.specs.State.{place, line_at, entry_at, word_at, with_line, with_entry, TSTATUS};
+ghost use Rattle.rules.specs.Own.{home};
 ghost use Rattle.rules.specs.Step.{narrowed};
 
 use entry::Entry;
@@ -17,7 +18,20 @@ pub struct Dims {
     pub entries: usize,
 }
 
-// Memory; regular lines or transactional entries, packed; flags.
+impl Dims {
+    // The line that a word uses. A machine of no lines is never made; the remainder by 0 is the word itself, as in the definition.
+    #[tactic(auto, unfolding(crate::specs::Own::home))]
+    pub fn home(self, word: u8) -> usize
+        ensures { result ≡ home self word }
+    {
+        let word = usize::from(word);
+        word.checked_rem(self.lines).unwrap_or(word)
+    }
+}
+
+// Memory; regular lines or transactional entries, packed; flags. A flag is a number, since a state that is handed in may hold any: flags_ok
+// tests it.
+// Flat, and of one length: the definition place and its theorem place_plain count so, C's array has the places so, and there is no heap.
 pub type Memory = [u32; 256];
 
 pub type Copies = [u64; 512];
@@ -25,7 +39,7 @@ pub type Copies = [u64; 512];
 pub type Flags = [u8; 16];
 
 // The state that steps change. Processor p's regular line i stands at place(p, i), and so does its transactional entry i. TACTIVE of p is flag p
-// and TSTATUS flag 8 + p, each 0 or 1.
+// and TSTATUS flag 8 + p, each 0 or 1: the definitions active_place and status_place, and C's array has them so.
 #[derive(Clone, Copy)]
 pub struct Caches {
     pub memory: Memory,
@@ -42,6 +56,7 @@ pub struct Machine {
 }
 
 // Where processor p's line or entry i stands. The remainders keep every access inside the arrays; within the dimensions they do nothing.
+// p and i come apart, here and in what calls it, since place, line_at and entry_at of the definitions, and the theorems, have them apart.
 pub fn place(p: usize, i: usize) -> usize
     ensures { result ≡ place p i }
 {
@@ -49,6 +64,7 @@ pub fn place(p: usize, i: usize) -> usize
 }
 
 impl Caches {
+    // Of lines and of entries apart: so are line_at and entry_at, with_line and with_entry, of which docs/PROMISES.md speaks.
     pub fn line_at(&self, p: usize, i: usize) -> Entry
         ensures { result ≡ line_at self.now p i }
     {
@@ -87,7 +103,7 @@ impl Caches {
     }
 }
 
-// The byte that the caches know a word by.
+// The byte that the caches know a word by. No TryFrom, which would refuse: the definition narrowed is the remainder, of any word.
 pub fn narrowed(word: u32) -> u8
     ensures { result ≡ narrowed word }
 {

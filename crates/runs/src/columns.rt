@@ -1,4 +1,5 @@
 // A trace in columns, and the lent columns of what its steps answer. The same place of each is one step.
+// They are parallel columns because C lends them so, in include/stirnfeld.h, and document 01 speaks of columns.
 
 ghost use Rattle.std.specs.Prelude.{◌≡◌, eqb, leb, length};
 ghost use Rattle.rules.specs.Run.{step_at, written, columns_ok};

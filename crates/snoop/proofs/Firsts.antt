@@ -5,7 +5,7 @@ use mathlib.Core.Bool.{Bool, true, false, not}
 use mathlib.Core.List.{List}
 use Prim.Native.Nat.{ℕ, ◌<◌}
 use native.Mathlib.Omega.{arith}
-use borrow.Author.Tests.{eq-eqb, ne_eqb, lt-ltb, le-ltb}
+use borrow.Author.Tests.{ne_eqb, lt-ltb, le-ltb}
 use lib.Dec.{eqb}
 use Rattle.std.specs.Prelude.{Some, None}
 use Rattle.laws.specs.Choice.{pick, both, either}
@@ -19,11 +19,6 @@ use Rattle.rules.specs.State.{copy_at}
 use Rattle.rules.specs.Own.{live_entry}
 use Rattle.rules.specs.Snoop.{opposes, other_opposes}
 use Rattle.snoop.specs.Firsts.{first_of, first_found}
-
--- p itself has none
-pub first_self : (n p word : ℕ) (es : List ℕ) (q : ℕ) → q ≡ p → None ≡ first_found n p word es q
-unfolding first_of
-first_self n p word es q e = rw (eq-eqb q p e, le-ltb n n (omega arith))
 
 -- the first entry of another than p
 pub first_other : (n p word : ℕ) (es : List ℕ) (q : ℕ) → q ≢ p → first_found n p word es q ≡ below n (live_entry es q n word)

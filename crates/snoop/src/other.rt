@@ -45,13 +45,14 @@ impl Request {
     fn opposes(&self, c: &Caches, q: usize) -> bool
         ensures { let x = self.now in result ≡ opposes x.dims x.word (cycle_number x.cycle) q c.now.entries }
     {
-        match caches::find_tentative(c, self.dims, q, self.word) {
+        match caches::find_entry(c, self.dims, q, Tag::Tentative, self.word) {
             Some(i) => self.is_against(c.entry_at(q, i)),
             None => false,
         }
     }
 
     // No tentative entry stands before the first NORMAL or tentative one. Behind a NORMAL one there is none in a sound state.
+    // q and first come apart, and contracts say first_found: a type that kept that fact would have to hold the caches, and they change.
     #[tactic(auto, using(crate::proofs::Firsts::none_opposes, crate::proofs::Firsts::some_opposes, crate::proofs::Firsts::first_opposes))]
     pub(crate) fn opposes_from(&self, c: &Caches, q: usize, first: Option<usize>) -> bool
         requires { let x = self.now in first ≡ first_found x.dims.entries x.p x.word c.now.entries q }

@@ -6,6 +6,7 @@ ghost use Rattle.rules.specs.SoundTest.{flags_ok, memory_ok};
 
 use rules::{Flags, Memory};
 
+// flags beside processors, and below memory beside words: the definitions flags_ok and memory_ok take just these two.
 pub(crate) fn flags_ok(flags: &Flags, processors: usize) -> bool
     ensures { result ≡ flags_ok flags.now processors }
 {

@@ -11,6 +11,7 @@ use entry::numbers::State;
 use rules::{Caches, Dims};
 
 // What a place is looked at against: all the caches, their dimensions, and the notes taken of them.
+// No Model: the definitions take memory, marks, owners and the rest one by one, and each contract says which.
 #[derive(Clone, Copy)]
 pub(crate) struct Test<'a> {
     pub caches: &'a Caches,

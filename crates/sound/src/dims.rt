@@ -13,6 +13,7 @@ fn in_range(n: usize, most: usize) -> bool
     (1..=most).contains(&n)
 }
 
+// The seven are listed, as the definition power_of_two lists them. By `n <= 64 && n.is_power_of_two()`, as was tried, no proof was found.
 fn is_power(n: usize) -> bool
     ensures { result ≡ power_of_two n }
 {

@@ -39,6 +39,7 @@ impl Test<'_> {
             & self.copy_ok(&at)
     }
 
+    // TACTIVE and TSTATUS, at the definitions active_place and status_place.
     #[tactic(auto, unfolding(rules::specs::SoundTest::flags_up))]
     fn flags_up(&self, at: &Placed) -> bool
         ensures { result ≡ flags_up self.now.caches.now.flags at.now.copy at.now.place }

@@ -8,6 +8,7 @@ use crate::placed::{Kind, Placed};
 use entry::numbers::{State, Tag};
 
 impl Test<'_> {
+    // entries_ok is the like: one function would be handed the array and the test, and each call be as long as this body.
     pub(crate) fn lines_ok(&self) -> bool
         ensures { let c = self.now.caches.now in let n = self.now.notes.now in
             result ≡ lines_ok c.memory n.marks n.owners self.now.dims c.lines }
@@ -16,6 +17,7 @@ impl Test<'_> {
         lines.iter().enumerate().all(|(j, x)| self.line_ok(*x, j))
     }
 
+    // What entry_ok shares with it, but for copy_ok, stands between tests that differ: taken out, it would leave the definitions' order.
     #[tactic(auto, unfolding(rules::specs::SoundTest::line_ok))]
     fn line_ok(&self, x: u64, j: usize) -> bool
         ensures { let c = self.now.caches.now in let n = self.now.notes.now in
@@ -35,12 +37,10 @@ impl Test<'_> {
             & self.copy_ok(&at)
     }
 
-    // The remainder by no lines is the word itself, as in the definition.
-    #[tactic(auto, unfolding(rules::specs::SoundTest::is_home))]
+    #[tactic(auto, unfolding(rules::specs::SoundTest::is_home, rules::specs::Own::home))]
     fn is_home(&self, at: &Placed) -> bool
         ensures { result ≡ is_home self.now.dims at.now.copy (at.now.place % 64) }
     {
-        let word = usize::from(at.word());
-        word.checked_rem(self.dims.lines).unwrap_or(word) == at.slot()
+        self.dims.home(at.word()) == at.slot()
     }
 }

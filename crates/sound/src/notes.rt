@@ -10,6 +10,7 @@ use rules::Copies;
 // Marks: for each processor, kind and word, the last place that has such a copy. A word has at most one copy of a kind exactly when every
 // copy finds its own place there. Owners: for each word the processor, counted from 1, of the last copy RESERVED or DIRTY. No other processor
 // has such a word exactly when every copy of it finds its own processor there. 0 is no mark, and no owner, as in `marks_of` and `owners_of`.
+// Flat, at the places of the definition mark_key; there is no heap.
 #[derive(Drop)]
 pub(crate) struct Notes {
     pub marks: [u16; 4096],
@@ -56,7 +57,8 @@ impl Notes {
         self.marks[k] == at.mark_value()
     }
 
-    // The place that the mark of a backup's word names: its tentative entry's, where it has one.
+    // The place that the mark of a backup's word names: its tentative entry's, where it has one. 511 for no mark is partner_place's own.
+    // k is no mark_key of at, which as a backup has 256 more.
     pub(crate) fn partner_place(&self, at: &Placed) -> usize
         ensures { result ≡ partner_place self.now.marks at.now.copy at.now.place }
     {

@@ -63,6 +63,7 @@ impl Placed {
         self.processor() % 8 * 512 + backup + usize::from(self.word())
     }
 
+    // Here and in owner by `as`: a remainder surely fits, and TryFrom would answer for a case that there is not.
     pub(crate) fn mark_value(&self) -> u16
         ensures { result ≡ mark_value (kind_number self.now.kind) self.now.place }
     {

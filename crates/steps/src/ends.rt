@@ -8,7 +8,7 @@ ghost use Rattle.rules.specs.Ends.{commit, abort, validate, interrupt};
 use entry::answer::{Answer, Answered};
 use rules::{Caches, Dims};
 
-// TACTIVE of p becomes false, TSTATUS true.
+// TACTIVE of p becomes false, TSTATUS true: their flags stand at the definitions active_place and status_place, as C's array has them.
 fn end(c: &mut Caches, p: usize)
     ensures { c.new ≡ ended p c.old }
 {

@@ -20,13 +20,11 @@ use rules::{Caches, Dims, narrowed};
 pub fn take_step(c: &mut Caches, d: Dims, step: Step) -> Answered
     ensures { outcome result c.new ≡ take_step d step c.old }
 {
-    match answer(c, d, step) {
-        Ok(told) => told,
-        Err(refusal) => refusal.into(),
-    }
+    answer(c, d, step).unwrap_or_else(Answered::from)
 }
 
-// Refusals 6, 7 and 8, then the instruction, which refuses nothing. Document 01 names the form: an arm for each instruction.
+// Refusals 6, 7 and 8, then the instruction, which refuses nothing. Document 01 names the form: an arm for each instruction. LT, LTX and ST meet
+// after the match, and nothing else does: then the compiler writes transact out in a run's loop.
 #[tactic(auto, unfolding(rules::specs::Step::take_step))]
 pub fn answer(c: &mut Caches, d: Dims, step: Step) -> Result<Answered, Refusal>
     ensures told { outcome (told_as result) c.new ≡ take_step d step c.old }
@@ -38,16 +36,17 @@ pub fn answer(c: &mut Caches, d: Dims, step: Step) -> Result<Answered, Refusal>
     }
     let p = step.core;
     let word = narrowed(step.word);
-    Ok(match op {
-        Op::Load => plain::load(c, d, p, word),
-        Op::Store => plain::store(c, d, p, word, step.value),
+    let told = match op {
+        Op::Load => return Ok(plain::load(c, d, p, word)),
+        Op::Store => return Ok(plain::store(c, d, p, word, step.value)),
         Op::Lt => transact::transact(c, d, op, p, word, step.value),
         Op::Ltx => transact::transact(c, d, op, p, word, step.value),
         Op::St => transact::transact(c, d, op, p, word, step.value),
-        Op::Commit => ends::commit(c, d, p),
-        Op::Abort => ends::abort(c, d, p),
-        Op::Validate => ends::validate(c, p),
-        Op::Interrupt => ends::interrupt(c, d, p),
+        Op::Commit => return Ok(ends::commit(c, d, p)),
+        Op::Abort => return Ok(ends::abort(c, d, p)),
+        Op::Validate => return Ok(ends::validate(c, p)),
+        Op::Interrupt => return Ok(ends::interrupt(c, d, p)),
         Op::Other(_) => return Err(Refusal::NoSuchStep),
-    })
+    };
+    Ok(told)
 }

@@ -10,7 +10,7 @@ use entry::refusals::Refusal;
 use entry::step::Step;
 use rules::Dims;
 
-// op is the step's. A field that a step does not use is ignored.
+// op is the step's. A field that a step does not use is ignored. A word goes by `as`: usize has no From of a u32.
 #[tactic(auto, unfolding(rules::specs::Step::operands_refusal))]
 pub(crate) fn test(d: Dims, op: Op, step: Step) -> Result<(), Refusal>
     requires { step.op ≡ step_number op }

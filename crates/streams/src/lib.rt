@@ -13,7 +13,7 @@ use std::io;
 use std::io::{ErrorKind, Write};
 use std::process::ExitCode;
 
-// A reader that stops early is no fault.
+// Whether a piece came through: a bool, since that is all that is asked. A reader that stops early is no fault.
 fn write_piece<W: Write>(writer: &mut W, piece: &[u8]) -> io::Result<bool> {
     match writer.write_all(piece) {
         Ok(()) => Ok(true),
@@ -23,11 +23,11 @@ fn write_piece<W: Write>(writer: &mut W, piece: &[u8]) -> io::Result<bool> {
 }
 
 // Whether a piece's bytes came through, and there were any.
-fn pass_on<W: Write>(writer: &mut W, out: &[u8], used: usize) -> io::Result<bool> {
-    match out.get(..used) {
-        Some(piece) if used > 0 => write_piece(writer, piece),
-        _ => Ok(false),
+fn pass_on<W: Write>(writer: &mut W, piece: &[u8]) -> io::Result<bool> {
+    if piece.is_empty() {
+        return Ok(false);
     }
+    write_piece(writer, piece)
 }
 
 // A proved loop has to end. So this one has a number of turns that no listing uses up: a piece that writes nothing is the last.
@@ -40,7 +40,7 @@ fn write_pieces<W: Write>(
     let mut x = first;
     for _ in 0..u64::MAX {
         let p = listing::next_piece(s, out, x);
-        if !pass_on(writer, out, p.used)? {
+        if !pass_on(writer, out.get(..p.used).unwrap_or(b""))? {
             break;
         }
         x = p.replaying;

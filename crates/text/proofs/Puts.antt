@@ -112,12 +112,20 @@ part_fit t o new at end e h n =
 pub number_not : (v n : ℕ) (o : List ℕ) (at : ℕ) → n ≡ width_of v → length o < at + n → filled at o ≡ put_of (decimal v) (filled at o)
 number_not v n o at e h = put_not (decimal v) o at (omega (arith, decimal_length v))
 
-pub number_fit : (v n : ℕ) (o new : List ℕ) (at end : ℕ) → n ≡ width_of v → end ≡ at + n → end ≤ length o →
-    new ≡ digits (length (take (end - at) (drop at o))) v → filled end (put_mid at (end - at) o new) ≡ put_of (decimal v) (filled at o)
+pub number_fit : (v n : ℕ) (o o' : List ℕ) (at : ℕ) → n ≡ width_of v → at + n ≤ length o → o' ≡ sets o at (digits n v) →
+    filled (at + n) o' ≡ put_of (decimal v) (filled at o)
 unfolding decimal
-number_fit v n o new at end e f h d =
-    let k : length (take (end - at) (drop at o)) ≡ width_of v = simp (length-take, length-drop) (omega arith) in
-    part_fit (decimal v) o new at end (omega (arith, decimal_length v)) h (d ∙ ap (λ (w : ℕ). digits w v) k)
+number_fit v n o o' at e h g =
+    let l : length (digits n v) ≡ n = digits_length n v in
+    rw (← e) (ap (λ (k : ℕ). filled (at + k) o') (sym l) ∙ put_fit (digits n v) o o' at (omega (arith, l)) g)
+
+pub number_part : (v n : ℕ) (o new : List ℕ) (at end : ℕ) → n ≡ width_of v → end ≡ at + n → end ≤ length o →
+    new ≡ digits (length (take (end - at) (drop at o))) v → filled end (put_mid at (end - at) o new) ≡ put_of (decimal v) (filled at o)
+number_part v n o new at end e f h d =
+    let k : length (take (end - at) (drop at o)) ≡ n = simp (length-take, length-drop) (omega arith) in
+    let t : new ≡ digits n v = d ∙ ap (λ (w : ℕ). digits w v) k in
+    let s = part_sets (digits n v) o new at end (omega (arith, digits_length n v)) h t in
+    rw f (number_fit v n o (put_mid at (at + n - at) o new) at e (omega arith) (rw (← f) s))
 
 -- Put after put is one put of both, where both fit.
 pub put_put : (t u : List ℕ) (x : Filled) → x.place + length (t ++ u) ≤ length x.held → put_of u (put_of t x) ≡ put_of (t ++ u) x

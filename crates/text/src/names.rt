@@ -29,6 +29,7 @@ pub fn text_is(s: &[u8], from: usize, end: usize, name: &[u8]) -> bool
 }
 
 // The number of the step that a text names.
+// A number and no Op: it becomes Step.op, which is one, since a number that is no step may be handed in there.
 pub(crate) fn step_of(op: &[u8]) -> Option<u8>
     ensures { result ≡ named_step op.now 0 (length op.now) }
 {

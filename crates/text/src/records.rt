@@ -18,6 +18,7 @@ pub struct Parsed {
 const RECORD_MOST: usize = 64;
 
 // Where the record that starts at `from` ends: at its CRLF, or at the end of input.
+// A place beside s and no slice: record_end has an answer for every place, and for one past the end that place itself.
 pub fn record_end(s: &[u8], from: usize) -> usize
     ensures { result ≡ record_end s.now from }
 {

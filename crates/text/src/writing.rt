@@ -9,6 +9,7 @@ use crate::marks::DIGIT_ZERO;
 // A number of 64 bits has at most 20 digits.
 const WIDTH_MOST: usize = 20;
 
+// The place itself and no None where the text does not fit: docs/PROMISES.md has this answer, of put_number as well.
 #[tactic(auto, using(crate::proofs::Puts::part_fit, crate::proofs::Puts::put_not))]
 pub fn put_bytes(out: &mut [u8], at: usize, text: &[u8]) -> usize
     ensures { filled result out.new ≡ put_of text.now (filled at out.old) }
@@ -22,7 +23,8 @@ pub fn put_bytes(out: &mut [u8], at: usize, text: &[u8]) -> usize
     }
 }
 
-#[tactic(auto, using(crate::proofs::Puts::number_fit, crate::proofs::Puts::number_not))]
+// A twin of put_bytes in its match alone: one function of both would take the length and a closure with a contract, no plainer.
+#[tactic(auto, using(crate::proofs::Puts::number_part, crate::proofs::Puts::number_not))]
 pub fn put_number(out: &mut [u8], at: usize, v: u64) -> usize
     ensures { filled result out.new ≡ put_of (decimal v) (filled at out.old) }
 {
@@ -50,6 +52,7 @@ fn width(v: u64) -> usize
 }
 
 // The last digits of v, as many as there are places, from the right.
+// By hand: std, which README has alone, tells what `write!` wrote only on Ok, and no clause says that it is Ok where the bytes fit.
 fn fill_digits(out: &mut [u8], v: u64)
     ensures { out.new ≡ digits (length out.old) v }
 {

@@ -18,6 +18,7 @@ use entry::numbers::{Cycle, Op, State, Tag};
 use rules::{Caches, Dims};
 
 // What processor p asks for. An ST stores the value.
+// No Model: the definitions take the four one by one, so that each contract would take a view of them apart just as it does the struct.
 #[derive(Clone, Copy)]
 struct Access {
     op: Op,
@@ -36,7 +37,7 @@ impl Access {
         }
     }
 
-    // The state of both entries after a miss.
+    // The state of both entries after a miss. A second match on LT: request_of and the definition fill choose apart, and hit needs neither.
     fn filled_state(self) -> State
         ensures { state_number result ≡ pick (eqb (step_number self.op) LT) VALID RESERVED }
     {
@@ -51,13 +52,14 @@ impl Access {
 fn drop_line(c: &mut Caches, d: Dims, a: Access) -> u8
     ensures { counted result c.new ≡ drop_line d a.p a.word c.old }
 {
-    let home = caches::home(d, a.word);
+    let home = d.home(a.word);
     if caches::holds(c.line_at(a.p, home), a.word) {
         return caches::clear_line(c, a.p, home);
     }
     0
 }
 
+// ST or not is chosen here since the definition finish, sentence 5 of document 01, chooses here.
 #[tactic(auto, unfolding(rules::specs::Transact::finish))]
 fn finish(c: &mut Caches, a: Access, i: usize, counts: Counts) -> Answered
     ensures { outcome result c.new ≡ finish (step_number a.op) a.p i a.value counts c.old }
@@ -86,7 +88,7 @@ fn busy(c: &mut Caches, d: Dims, p: usize, cycle: Cycle, writes: u16) -> Answere
     }
 }
 
-// The definition's two counts come as their sum.
+// The definition's two counts come as their sum. LT or not is chosen here since the definition hit, sentence 3, chooses here.
 #[tactic(auto, unfolding(rules::specs::Transact::hit))]
 fn hit(c: &mut Caches, d: Dims, a: Access, i: usize, writes: u16) -> Answered
     ensures { outcome result c.new ≡ hit d (step_number a.op) a.p i a.word a.value writes 0 c.old }
@@ -156,6 +158,7 @@ fn request(
     finish(c, a, i, Counts::asked(cycle, writes, 0))
 }
 
+// The backup's slot is cleared if there is one: plain's drop_normal, of a definition of its own, says why the match stands twice.
 #[tactic(auto, unfolding(rules::specs::Transact::miss_at, rules::specs::Transact::clear_backup))]
 fn miss_at(c: &mut Caches, d: Dims, a: Access, i: usize, writes: u8) -> Answered
     ensures { outcome result c.new ≡ miss_at d (step_number a.op) a.p i a.word a.value writes c.old }
@@ -200,6 +203,7 @@ fn seek(c: &mut Caches, d: Dims, a: Access, writes: u8) -> Answered
     }
 }
 
+// Its parameters are the definition's, of which docs/PROMISES.md speaks: an Access is made inside. TACTIVE stands at active_place.
 #[tactic(auto, unfolding(rules::specs::Transact::transact))]
 pub fn transact(c: &mut Caches, d: Dims, op: Op, p: usize, word: u8, value: u32) -> Answered
     ensures { outcome result c.new ≡ transact d (step_number op) p word value c.old }

@@ -13,13 +13,13 @@ returns-then-eq c =
     let f = some_below _ _ _ (sym c.in-Some.is ∙ c.live_entry.ensures) in
     sym (own_tentative _ _ _ _ c.in-Some.i (omega (arith, f)) f.1 (search rules))
 
-pub returns-in-Some-find_tentative : goal.returns-in-Some-find_tentative
-returns-in-Some-find_tentative c =
-    let f = some_below _ _ _ (sym c.in-Some-find_tentative.is ∙ c.find_tentative.ensures) in
+pub returns-in-Some-find_entry : goal.returns-in-Some-find_entry
+returns-in-Some-find_entry c =
+    let f = some_below _ _ _ (sym c.in-Some-find_entry.is ∙ c.find_entry.ensures) in
     rw (← f.1) (sym (own_behind _ _ _ _ f.0))
 
 pub returns-in-None : goal.returns-in-None
 returns-in-None c =
     let f = some_below _ _ _ (sym c.in-Some.is ∙ c.live_entry.ensures) in
-    let h = none_below _ _ (sym c.in-None.is ∙ c.find_tentative.ensures) in
+    let h = none_below _ _ (sym c.in-None.is ∙ c.find_entry.ensures) in
     sym (own_normal _ _ _ _ c.in-Some.i (omega (arith, f)) f.1 (search rules) h)

@@ -8,13 +8,13 @@ pub returns-in-Store-clause-unrefused : goal.returns-in-Store-clause-unrefused
 returns-in-Store-clause-unrefused c = store_told _ _ c.args.d _ _ _ _ c.store.ensures
 
 pub returns-in-Lt-clause-unrefused : goal.returns-in-Lt-clause-unrefused
-returns-in-Lt-clause-unrefused c = transact_told _ _ c.args.d _ _ _ _ _ c.transact.ensures
+returns-in-Lt-clause-unrefused c = transact_told _ _ c.args.d _ _ _ _ _ c.transact-told.ensures
 
 pub returns-in-Ltx-clause-unrefused : goal.returns-in-Ltx-clause-unrefused
-returns-in-Ltx-clause-unrefused c = transact_told _ _ c.args.d _ _ _ _ _ c.transact-in-Ltx.ensures
+returns-in-Ltx-clause-unrefused c = transact_told _ _ c.args.d _ _ _ _ _ c.transact-told-in-Ltx.ensures
 
 pub returns-in-St-clause-unrefused : goal.returns-in-St-clause-unrefused
-returns-in-St-clause-unrefused c = transact_told _ _ c.args.d _ _ _ _ _ c.transact-in-St.ensures
+returns-in-St-clause-unrefused c = transact_told _ _ c.args.d _ _ _ _ _ c.transact-told-in-St.ensures
 
 pub returns-in-Commit-clause-unrefused : goal.returns-in-Commit-clause-unrefused
 returns-in-Commit-clause-unrefused c = commit_told _ _ c.args.d _ _ c.commit.ensures
