@@ -3,7 +3,7 @@
 use mathlib.Core.Path.{◌≡◌, refl, sym, ◌∙◌}
 use mathlib.Core.Bool.{Bool, true, false, false≢true}
 use mathlib.Core.List.{List}
-use Prim.Native.Nat.{ℕ, min, ◌*◌, ◌%◌, ◌≤◌, ◌<◌}
+use Prim.Native.Nat.{ℕ, min, ◌+◌, ◌-◌, ◌*◌, ◌%◌, ◌≤◌, ◌<◌}
 use native.Mathlib.Omega.{arith}
 use native.Mathlib.Decide.{dec_lt}
 use borrow.Author.Tests.{lt-ltb, le-ltb, ltb-true, ltb-false}
@@ -67,21 +67,21 @@ module _ (p : ℕ → Bool) where
   found from n None before h = nowhere n (none_on 0 from n before h)
   found from n (Some i) before h = there i n h.1 h.2 (none_on 0 from i before h.3)
 
--- `position` in the slice of p's first entries, of n at most 64, since places go round after that
-module _ (es : List ℕ) (p n j : ℕ) (whole : length es ≡ 512) (size : j ≡ min n 64) (test : ℕ → Bool) where
+-- `position` in the slice of p's first entries, of n at most 64, since places go round after that, behind those that were passed over
+module _ (es : List ℕ) (p n base j : ℕ) (start : base ≡ p % 8 * 64) (whole : length es ≡ 512) (size : j ≡ min n 64) (test : ℕ → Bool) where
   abbrev own : List ℕ
-  own = take j (drop (p % 8 * 64) es)
+  own = take j (drop base es)
 
   abbrev at_place : ℕ → Bool
   at_place i = test (get_or es (place p i) 0)
 
   own_length : length own ≡ j
-  own_length = length-take-le j (drop (p % 8 * 64) es) (omega (arith, whole, size, length-drop (p % 8 * 64) es, min-le_right n 64))
+  own_length = length-take-le j (drop base es) (omega (arith, start, whole, size, length-drop base es, min-le_right n 64))
 
   own_at : (i : ℕ) → i < length own → at_place i ≡ test (get_or own i 0)
   own_at i h =
       let small : i % 64 ≡ i = omega (arith, h, own_length, size, min-le_right n 64) in
-      rw (get_or-take j (drop (p % 8 * 64) es) i 0 (omega (arith, h, own_length)), get_or-drop (p % 8 * 64) es i 0, small) refl
+      rw (get_or-take j (drop base es) i 0 (omega (arith, h, own_length)), get_or-drop base es i 0, start, small) refl
 
   own_round : (i : ℕ) → at_place i ≡ at_place (i % 64)
   own_round i = let e : i % 64 % 64 ≡ i % 64 = omega arith in rw e refl
@@ -89,10 +89,43 @@ module _ (es : List ℕ) (p n j : ℕ) (whole : length es ≡ 512) (size : j ≡
   wrapped : (i : ℕ) → i < n → i % 64 < length own
   wrapped i h = omega (arith, own_length, size, h)
 
-  pub placed : (r : Option ℕ) →
-      MatchOption r (AllWithin (λ x. test x ≡ false) own 0 (length own))
-      (λ i. (i < length own) × HoldsAt (λ x. test x ≡ true) own i × AllWithin (λ x. test x ≡ false) own 0 i) → r ≡ below n (first_from at_place 0 n)
-  placed None h = nowhere at_place n (λ k a b. own_round k ∙ own_at (k % 64) (wrapped k b) ∙ h (k % 64) 0 (omega arith) (wrapped k b))
-  placed (Some i) h =
-      there at_place i n (omega (arith, h.0, own_length, size, min-le_left n 64)) (own_at i h.0 ∙ h.1 0)
-      (λ k a b. own_at k (omega (arith, h.0)) ∙ h.2 k 0 a b)
+  -- the slice of them from place i on
+  abbrev from_on : ℕ → List ℕ
+  from_on i = take (length own - i) (drop i own)
+
+  on_length : (i : ℕ) → length (from_on i) ≡ length own - i
+  on_length i = length-take-le (length own - i) (drop i own) (omega (arith, length-drop i own))
+
+  on_at : (i k : ℕ) → i ≤ k → k < length own → at_place k ≡ test (get_or (from_on i) (k - i) 0)
+  on_at i k a b =
+      let at : i + (k - i) ≡ k = omega arith in
+      own_at k b ∙ rw (get_or-take (length own - i) (drop i own) (k - i) 0 (omega arith), get_or-drop i own (k - i) 0, at) refl
+
+  none_behind : (i k : ℕ) → HasNone at_place 0 i → i + k ≤ length own → ((l : ℕ) → l < k → test (get_or (from_on i) l 0) ≡ false) →
+      HasNone at_place 0 (i + k)
+  none_behind i k before room h = none_on at_place 0 i (i + k) before (λ l a b. on_at i l a (omega arith) ∙ h (l - i) (omega arith))
+
+  abbrev AllFail : List ℕ → ℕ → Type 0
+  AllFail xs k = AllWithin (λ x. test x ≡ false) xs 0 k
+
+  abbrev IsFound : List ℕ → Option ℕ → Type 0
+  IsFound xs r = MatchOption r (AllFail xs (length xs)) (λ k. (k < length xs) × HoldsAt (λ x. test x ≡ true) xs k × AllFail xs k)
+
+  -- r of those from place i on, none before which passes; s the place itself
+  found_on : (i : ℕ) (r s : Option ℕ) → HasNone at_place 0 i → i ≤ length own → IsFound (from_on i) r →
+      MatchOption r (s ≡ None) (λ k. s ≡ Some (i + k)) → s ≡ below n (first_from at_place 0 n)
+  found_on i None s before room h e =
+      let all = none_behind i (length own - i) before (omega arith) (λ l b. h l 0 (omega arith) (omega (arith, on_length i))) in
+      e ∙ nowhere at_place n (λ k a b. own_round k ∙ all (k % 64) (omega arith) (omega (arith, wrapped k b)))
+  found_on i (Some k) s before room h e =
+      let low : i + k < length own = omega (arith, h.0, on_length i) in
+      let at : i + k - i ≡ k = omega arith in
+      let here : at_place (i + k) ≡ true = on_at i (i + k) (omega arith) low ∙ rw at (h.1 0) in
+      let none = none_behind i k before (omega arith) (λ l b. h.2 l 0 (omega arith) b) in
+      e ∙ there at_place (i + k) n (omega (arith, own_length, size, min-le_left n 64)) here none
+
+  -- none before `from`, and none of those passed over behind it
+  pub placed : (from over : ℕ) (r s : Option ℕ) → HasNone at_place 0 from → from + over ≤ length own →
+      ((k : ℕ) → k < over → test (get_or (from_on from) k 0) ≡ false) → IsFound (from_on (from + over)) r →
+      MatchOption r (s ≡ None) (λ k. s ≡ Some (from + over + k)) → s ≡ below n (first_from at_place 0 n)
+  placed from over r s before room passed h e = found_on (from + over) r s (none_behind from over before room passed) room h e

@@ -65,6 +65,10 @@ module _ (es : List ℕ) (p n word : ℕ) where
       find_entry es p n TENTATIVE word ≡ live_entry es p n word
   first_tentative h t = first_live TENTATIVE never_tentative h t
 
+  pub before_live : (k : ℕ) → k < live_entry es p n word → has_entry es p TENTATIVE word k ≡ false
+  unfolding live_entry
+  before_live k h = never_tentative k (first_not (has_live es p word) 0 n k (omega arith) h)
+
   normal_tag : live_entry es p n word < n → eqb (copy_at es p (live_entry es p n word)).tag TENTATIVE ≡ false →
       (copy_at es p (live_entry es p n word)).tag ≡ NORMAL
   unfolding live_entry

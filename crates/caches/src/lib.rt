@@ -2,13 +2,14 @@
 
 #![tactic(auto)]
 
-ghost use Rattle.std.specs.Prelude.{◌≡◌, Bool, ℕ, ◌<◌, ◌^◌};
+ghost use Rattle.std.specs.Prelude.{◌≡◌, Bool, false, ℕ, ◌<◌, ◌≤◌, ◌^◌, length, get_or};
+ghost use Rattle.std.specs.List.{All};
 ghost use Rattle.laws.specs.Search.{first_from};
 ghost use Rattle.entry.specs.Copy.{Fields};
 ghost use Rattle.entry.specs.Kinds.{tag_number};
 ghost use Rattle.entry.specs.Packing.{no_entry, unpack};
 ghost use Rattle.rules.specs.State.{caches, copy_at, with_copy, line_at, entry_at, with_memory, counted};
-ghost use Rattle.rules.specs.Own.{holds, find_entry, is_free, lowest, free_slot, live_entry};
+ghost use Rattle.rules.specs.Own.{holds, has_entry, find_entry, is_free, lowest, free_slot, live_entry};
 ghost use Rattle.rules.specs.Rollback.{repacked, over_entries, rollback, committed_entries};
 ghost use Rattle.rules.specs.Snoop.{written_back, writes, clear_line, clear_entry};
 ghost use Rattle.caches.specs.Own.{below, own_entry};
@@ -31,42 +32,94 @@ pub fn holds(e: Entry, word: u8) -> bool
     e.state != State::Invalid && e.word == word
 }
 
+// Whether one of eight passes. Each is tested, with no way out before the end, so that the eight become straight code.
+fn one_passes<K: Copy, F: Fn(u64, K) -> bool>(eight: &[u64; 8], key: K, test: &F) -> bool
+    requires { F.IsAlwaysCallable test.now }
+    ensures { result ≡ false → All (λ x. F.post test.now x key false) eight.now }
+{
+    eight.iter().fold(false, |passed, x| passed | test(*x, key))
+}
+
+// How many at the front are passed over, eight at a time, since none of them passes: a search that looks far is up to twice as fast so. A call
+// of its own: written out in each search, it slows those among few.
+#[inline(never)]
+fn eights_over<K: Copy, F: Fn(u64, K) -> bool>(own: &[u64], key: K, test: &F) -> usize
+    requires { F.IsAlwaysCallable test.now }
+    ensures within { result ≤ length own.now }
+    ensures none { (k : ℕ) → k < result → let x = get_or own.now k 0 in (x < 2 ^ 64) × F.post test.now x key false }
+{
+    let (eights, _) = own.as_chunks::<8>();
+    let found = eights.iter().position(|eight| one_passes(eight, key, test));
+    8 * found.unwrap_or(eights.len())
+}
+
+// The same, but none of few: a search among them does not look far.
+#[inline]
+fn passed_over<K: Copy, F: Fn(u64, K) -> bool>(own: &[u64], key: K, test: &F) -> usize
+    requires { F.IsAlwaysCallable test.now }
+    ensures within { result ≤ length own.now }
+    ensures none { (k : ℕ) → k < result → let x = get_or own.now k 0 in (x < 2 ^ 64) × F.post test.now x key false }
+{
+    if own.len() <= 8 {
+        return 0;
+    }
+    eights_over(own, key, test)
+}
+
 // The first of p's entries that passes the test for the key. Places go round after 64, so that it need not look further.
+// None before `from` passes.
+#[inline]
 fn first_entry<K: Copy, F: Fn(u64, K) -> bool>(
     c: &Caches,
     d: Dims,
     p: usize,
+    from: usize,
     key: K,
     test: F,
 ) -> Option<usize>
     ghost has: { Fields → K → Bool }
     requires calls { F.IsAlwaysCallable test }
     requires tests { (x : ℕ) (b : Bool) → x < 2 ^ 64 → F.post test x key b → b ≡ has (unpack x) key }
+    requires none { (k : ℕ) → k < from → has (entry_at c.now p k) key ≡ false }
     ensures { result ≡ below d.entries (first_from (λ i. has (entry_at c.now p i) key) 0 d.entries) }
 {
     let base = place(p, 0);
     let own = &c.entries[base..base + d.entries.min(64)];
-    own.iter().position(|x| test(*x, key))
+    let from = from.min(own.len());
+    let behind = from + passed_over(&own[from..], key, &test);
+    own[behind..]
+        .iter()
+        .position(|x| test(*x, key))
+        .map(|i| behind + i)
 }
 
+// The search of find_entry. No entry before `from` has the tag and the word.
 #[tactic(auto, unfolding(rules::specs::Own::find_entry))]
-pub fn find_entry(c: &Caches, d: Dims, p: usize, tag: Tag, word: u8) -> Option<usize>
+fn find_from(c: &Caches, d: Dims, p: usize, from: usize, tag: Tag, word: u8) -> Option<usize>
+    requires { (k : ℕ) → k < from → has_entry c.now.entries p (tag_number tag) word k ≡ false }
     ensures { result ≡ below d.entries (find_entry c.now.entries p d.entries (tag_number tag) word) }
 {
     first_entry(
         c,
         d,
         p,
+        from,
         (tag, word),
         |x, (tag, word)| packed::is_entry(x, tag, word),
     )
+}
+
+pub fn find_entry(c: &Caches, d: Dims, p: usize, tag: Tag, word: u8) -> Option<usize>
+    ensures { result ≡ below d.entries (find_entry c.now.entries p d.entries (tag_number tag) word) }
+{
+    find_from(c, d, p, 0, tag, word)
 }
 
 #[tactic(auto, unfolding(rules::specs::Own::live_entry))]
 pub fn live_entry(c: &Caches, d: Dims, p: usize, word: u8) -> Option<usize>
     ensures { result ≡ below d.entries (live_entry c.now.entries p d.entries word) }
 {
-    first_entry(c, d, p, word, packed::is_live)
+    first_entry(c, d, p, 0, word, packed::is_live)
 }
 
 // The tentative one, else the NORMAL one. Behind a NORMAL entry there is no tentative one in a sound state.
@@ -79,7 +132,7 @@ pub fn own_entry(c: &Caches, d: Dims, p: usize, word: u8) -> Own
     if c.entry_at(p, i).tag == Tag::Tentative {
         return Own::Tentative(i);
     }
-    match find_entry(c, d, p, Tag::Tentative, word) {
+    match find_from(c, d, p, i, Tag::Tentative, word) {
         Some(k) => Own::Tentative(k),
         None => Own::Normal(i),
     }
@@ -95,7 +148,7 @@ fn is_free(c: &Caches, p: usize, tag: Tag, taken: usize, i: usize) -> bool
 fn lowest(c: &Caches, d: Dims, p: usize, tag: Tag, taken: usize) -> Option<usize>
     ensures { result ≡ below d.entries (lowest c.now.entries p d.entries (tag_number tag) taken) }
 {
-    let mut i = first_entry(c, d, p, tag, |x, tag| packed::tag_of(x) == tag)?;
+    let mut i = first_entry(c, d, p, 0, tag, |x, tag| packed::tag_of(x) == tag)?;
     loop {
         if i >= d.entries {
             break None;

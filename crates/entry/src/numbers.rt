@@ -91,7 +91,26 @@ impl From<Tag> for u64 {
     }
 }
 
-// Steps. Document 01 names the form in which their numbers are matched on: an arm for each, a range for what is none.
+// Steps, as Step.op holds them.
+pub const LOAD: u8 = 0;
+
+pub const STORE: u8 = 1;
+
+pub const LT: u8 = 2;
+
+pub const LTX: u8 = 3;
+
+pub const ST: u8 = 4;
+
+pub const COMMIT: u8 = 5;
+
+pub const ABORT: u8 = 6;
+
+pub const VALIDATE: u8 = 7;
+
+pub const INTERRUPT: u8 = 8;
+
+// Document 01 names the form in which these numbers are matched on: an arm for each, a range for what is none.
 #[derive(Clone, Copy, PartialEq, Eq)]
 pub enum Op {
     Load,
@@ -111,15 +130,15 @@ impl From<u8> for Op {
 
     fn from(number: u8) -> Op {
         match number {
-            0 => Op::Load,
-            1 => Op::Store,
-            2 => Op::Lt,
-            3 => Op::Ltx,
-            4 => Op::St,
-            5 => Op::Commit,
-            6 => Op::Abort,
-            7 => Op::Validate,
-            8 => Op::Interrupt,
+            LOAD => Op::Load,
+            STORE => Op::Store,
+            LT => Op::Lt,
+            LTX => Op::Ltx,
+            ST => Op::St,
+            COMMIT => Op::Commit,
+            ABORT => Op::Abort,
+            VALIDATE => Op::Validate,
+            INTERRUPT => Op::Interrupt,
             9..=255 => Op::Other(number - 9),
         }
     }

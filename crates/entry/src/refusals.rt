@@ -2,6 +2,9 @@
 
 ghost use Rattle.std.specs.Prelude.{◌≡◌};
 
+// The number that stands where there is no refusal.
+pub const ACCEPTED: u8 = 0;
+
 // In the order in which document 01 lists and checks them; 11 to 14 are a record's text, its grant, the header, and the length of the input.
 #[derive(Clone, Copy, PartialEq, Eq)]
 pub enum Refusal {

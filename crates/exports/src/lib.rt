@@ -16,12 +16,9 @@ ghost use Rattle.exports.specs.Handed.{handed, make_in, sound_in, step_lent, ste
 
 use crate::array::{UNREAD, dims_of, held_ok, machine_of, put_caches, put_machine, read_caches};
 pub use crate::places::State;
-use entry::refusals::Refusal;
+use entry::refusals::{ACCEPTED, Refusal};
 use rules::Dims;
 use runs::{Columns, Halt, Steps};
-
-// C is told a refusal by its number, and by this number that there is none.
-const ACCEPTED: u8 = 0;
 
 // initial is the memory that the caller gives. What the array held before does not matter.
 // Its parameters are those that C hands exports_c, under the names of include/stirnfeld.h.
@@ -42,13 +39,12 @@ pub fn stirnfeld_make(
         lines,
         entries,
     };
-    match machine::make(dims, initial) {
-        Ok(m) => {
-            put_machine(state, &m);
-            ACCEPTED
-        }
-        Err(refusal) => refusal.into(),
-    }
+    let m = match machine::make(dims, initial) {
+        Ok(m) => m,
+        Err(refused) => return refused.refusal.into(),
+    };
+    put_machine(state, &m);
+    ACCEPTED
 }
 
 #[tactic(auto, unfolding(crate::specs::Handed::sound_in))]
@@ -153,7 +149,7 @@ pub fn stirnfeld_step(
 pub fn stirnfeld_settle(state: &State, values: &mut [u32; 256]) -> u8
     ensures { handed result values.new ≡ settle_in state.now values.old }
 {
-    match machine_of(state).and_then(machine::settle) {
+    match machine_of(state).and_then(|m| machine::settle(m).map_err(|refused| refused.refusal)) {
         Ok(all) => {
             *values = all;
             ACCEPTED

@@ -12,7 +12,8 @@ use lib.ListN.{length, take, replicate, length-replicate}
 use Rattle.rules.specs.declared.Dims.{Dims}
 use Rattle.entry.specs.declared.refusals.Refusal.{Refusal}
 use Rattle.entry.specs.Refusals.{accepted, number_of}
-use Rattle.rules.specs.Making.{Made, dims_refusal, make_refusal, make_of, smallest, made_by}
+use Rattle.rules.specs.declared.NotMade.{NotMade}
+use Rattle.rules.specs.Making.{Made, dims_refusal, make_refusal, make_of, made_by}
 use Rattle.machine.proofs.Fits.{dims_fit}
 use Rattle.listing.specs.declared.places.Place.{Place}
 use Rattle.entry.proofs.Refused.{refusal_back}
@@ -43,6 +44,6 @@ unfolding begin_at
 begin_refused s r = rw (refusal_back r).1
 
 -- a machine that was refused
-pub begun_refused : (s : List ℕ) (d : Dims) (n : ℕ) (r : Refusal) (x : Place) → n ≤ 256 → (d.words ≤ 256 → n ≡ d.words) →
-    made_by (Err r) ≡ make_of d (take n (zeros 256)) → x ≡ first_place (number_of r) 0 → replaying x smallest ≡ begin_of s d
-begun_refused s d n r x h k em ex = begun_zero s d n (made_by (Err r)) x h k em (ex ∙ begin_refused s r)
+pub begun_refused : (s : List ℕ) (d : Dims) (n : ℕ) (r : NotMade) (x : Place) → n ≤ 256 → (d.words ≤ 256 → n ≡ d.words) →
+    made_by (Err r) ≡ make_of d (take n (zeros 256)) → x ≡ first_place (number_of r.refusal) 0 → replaying x r.machine ≡ begin_of s d
+begun_refused s d n r x h k em ex = begun_zero s d n (made_by (Err r)) x h k em (ex ∙ begin_refused s r.refusal)

@@ -40,9 +40,9 @@ pub fn begin(s: &[u8], dims: Dims) -> Replaying
             place: places::begin_at(s),
             machine,
         },
-        Err(refusal) => Replaying {
-            place: places::first_place(Some(refusal), 0),
-            machine: machine::smallest(),
+        Err(refused) => Replaying {
+            place: places::first_place(Some(refused.refusal), 0),
+            machine: refused.machine,
         },
     }
 }

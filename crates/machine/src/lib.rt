@@ -14,13 +14,19 @@ ghost use Rattle.rules.specs.Step.{step_of, settled_of, settle_of, settled_by};
 use entry::answer::{Answer, Answered};
 use entry::refusals::Refusal;
 use entry::step::Step;
-use rules::{Dims, Machine, Memory, Stepped, narrowed};
+use rules::{Dims, Machine, Memory, NotMade, NotSettled, Stepped, narrowed};
 
+// A refused making hands back the smallest machine.
 #[tactic(auto, unfolding(rules::specs::Making::make_of))]
-pub fn make(dims: Dims, memory: &[u32]) -> Result<Machine, Refusal>
+pub fn make(dims: Dims, memory: &[u32]) -> Result<Machine, NotMade>
     ensures { made_by result ≡ make_of dims memory.now }
 {
-    making::test(dims, memory)?;
+    if let Err(refusal) = making::test(dims, memory) {
+        return Err(NotMade {
+            refusal,
+            machine: smallest(),
+        });
+    }
     Ok(Machine {
         dims,
         caches: making::fresh(dims, memory),
@@ -64,11 +70,14 @@ pub fn settled(m: Machine, word: u32) -> Answer
 
 // Every word's settled value in one call.
 #[tactic(auto, unfolding(rules::specs::Step::settle_of))]
-pub fn settle(m: Machine) -> Result<Memory, Refusal>
+pub fn settle(m: Machine) -> Result<Memory, NotSettled>
     ensures { settled_by result ≡ settle_of m }
 {
     if !sound(m) {
-        return Err(Refusal::NotSound);
+        return Err(NotSettled {
+            refusal: Refusal::NotSound,
+            values: [0; 256],
+        });
     }
     Ok(settling::settled_all(&m.caches, m.dims))
 }

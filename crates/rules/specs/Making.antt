@@ -1,9 +1,9 @@
 -- "The machine's dimensions", and making a machine: refusals 1 to 5.
 use Rattle.std.specs.Prelude.{Bool, Result, Ok, Err, List, [], ◌∷◌, ◌++◌, ℕ, ◌-◌, eqb, leb, length, replicate}
 use Rattle.laws.specs.Choice.{both, either}
-use Rattle.entry.specs.declared.refusals.Refusal.{Refusal}
 use Rattle.rules.specs.declared.Dims.{Dims}
 use Rattle.rules.specs.declared.Machine.{Machine}
+use Rattle.rules.specs.declared.NotMade.{NotMade}
 use Rattle.rules.specs.declared.Caches.{Caches}
 use Rattle.rules.specs.State.{caches, machine_of, true_flag, false_flag}
 use Rattle.entry.specs.Refusals.{accepted, bad_processors, bad_words, bad_lines, bad_entries, bad_memory, unless, number_of}
@@ -64,7 +64,7 @@ make_of d memory =
     let m = machine_of d (fresh d memory) in
     unless (eqb (make_refusal d memory) accepted) (made (make_refusal d memory) smallest) (made accepted m)
 
--- a making's result so seen: the smallest machine stands in for one that was refused
-abbrev pub made_by : Result Machine Refusal → Made
+-- a making's result so seen
+abbrev pub made_by : Result Machine NotMade → Made
 made_by (Ok m) = made accepted m
-made_by (Err r) = made (number_of r) smallest
+made_by (Err r) = made (number_of r.refusal) r.machine

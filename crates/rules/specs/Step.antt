@@ -13,7 +13,7 @@ use Rattle.entry.specs.Answer.{refused_by}
 use Rattle.rules.specs.declared.Dims.{Dims}
 use Rattle.rules.specs.declared.Machine.{Machine}
 use Rattle.rules.specs.declared.Stepped.{Stepped}
-use Rattle.entry.specs.declared.refusals.Refusal.{Refusal}
+use Rattle.rules.specs.declared.NotSettled.{NotSettled}
 use Rattle.rules.specs.declared.Caches.{Caches}
 use Rattle.rules.specs.State.{caches_of, machine_of, Outcome, outcome}
 use Rattle.rules.specs.Load.{load}
@@ -99,6 +99,6 @@ settle_of m =
     unless (sound_of m.dims (caches_of m)) (settle not_sound (replicate 256 0)) (settle accepted a)
 
 -- a settling's result so seen
-abbrev pub settled_by : Result (List ℕ) Refusal → Settle
+abbrev pub settled_by : Result (List ℕ) NotSettled → Settle
 settled_by (Ok values) = settle accepted values
-settled_by (Err r) = settle (number_of r) (replicate 256 0)
+settled_by (Err r) = settle (number_of r.refusal) r.values

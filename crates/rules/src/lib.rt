@@ -9,6 +9,7 @@ ghost use Rattle.rules.specs.Step.{narrowed};
 
 use entry::Entry;
 use entry::answer::Answered;
+use entry::refusals::Refusal;
 
 #[derive(Clone, Copy)]
 pub struct Dims {
@@ -108,6 +109,20 @@ pub fn narrowed(word: u32) -> u8
     ensures { result ≡ narrowed word }
 {
     (word % 256) as u8
+}
+
+// A making that was refused: its refusal, and the smallest machine.
+#[derive(Clone, Copy)]
+pub struct NotMade {
+    pub refusal: Refusal,
+    pub machine: Machine,
+}
+
+// A settling that was refused: its refusal, and zeros.
+#[derive(Clone, Copy)]
+pub struct NotSettled {
+    pub refusal: Refusal,
+    pub values: Memory,
 }
 
 #[derive(Clone, Copy)]

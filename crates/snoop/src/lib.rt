@@ -77,7 +77,7 @@ impl Request {
 
     // Nobody's rollback meets what another's snooping leaves, so that each snoops at once.
     // Kept beside roll_others and snoop for its speed: by those two, the second over noted places, requests took 1.3 to 1.4 times as long.
-    // A run of a random trace on 8/256/64/64 takes 249 ns a step so and 276 by those two; the bar, of the older form, is 259.
+    // A run of a random trace on 8/256/64/64 took 249 ns a step so and 276 by those two, in two builds of one day.
     #[tactic(auto, using(crate::proofs::Turns::turns, crate::proofs::Together::plain_together))]
     fn roll_and_snoop(&self, c: &mut Caches)
         requires { self.now.dims.processors ≤ 8 }

@@ -68,8 +68,10 @@ impl Request {
         self.is_against(e)
     }
 
-    // Answers where q's first entry stands afterwards.
+    // Answers where q's first entry stands afterwards. Written out in both loops that call it: as a call, plain accesses among few entries took a
+    // tenth longer, for what it saves on the stack.
     #[tactic(auto, unfolding(rules::specs::Snoop::roll_one))]
+    #[inline(always)]
     pub(crate) fn roll_one(&self, c: &mut Caches, q: usize) -> Option<usize>
         ensures rolled { let x = self.now in c.new ≡ roll_one x.dims x.p x.word (cycle_number x.cycle) q c.old }
         ensures value { let x = self.now in result ≡ first_found x.dims.entries x.p x.word c.new.entries q }

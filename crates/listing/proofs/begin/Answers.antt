@@ -8,5 +8,4 @@ returns-in-Ok c =
 
 pub returns-in-Err : goal.returns-in-Err
 returns-in-Err c =
-    rw c.smallest.ensures
-    (begun_refused _ _ _ _ _ (omega (arith, c.min-n.ensures)) (λ h. omega (arith, c.min-n.ensures, h)) c.in-Err.ensures (search rules))
+    begun_refused _ _ _ _ _ (omega (arith, c.min-n.ensures)) (λ h. omega (arith, c.min-n.ensures, h)) c.in-Err.ensures (search rules)

@@ -6,4 +6,4 @@ use Rattle.machine.proofs.make.Goals as goal
 pub fresh-requires : goal.fresh-requires
 fresh-requires c =
     let x = c.args in
-    make_fit x.dims x.memory.now (sym c.test.ensures ∙ ap refused_as c.in_ok-test.was)
+    make_fit x.dims x.memory.now (sym c.test.ensures ∙ ap refused_as c.in_default.is)

@@ -11,8 +11,8 @@ copy_by-requires-clause-calls c =
     λ i d l. omega (arith, none_above_in s 4294967295 256 256 (omega arith) (held s c.requires).memory i d l) in
     search (rules, narrow)
 
-pub copy_by-requires-2-clause-calls : goal.copy_by-requires-2-clause-calls
-copy_by-requires-2-clause-calls c =
+pub copy_by-requires-4-clause-calls : goal.copy_by-requires-4-clause-calls
+copy_by-requires-4-clause-calls c =
     let s = c.args.state.now in
     let narrow : (i d : ℕ) → i < length (take 16 (drop 16 s)) → get_or (take 16 (drop 16 s)) i d < 256 =
     λ i d l. omega (arith, none_above_in s 1 16 16 (omega arith) (held s c.requires).flags i d l) in
@@ -21,5 +21,6 @@ copy_by-requires-2-clause-calls c =
 pub returns : goal.returns
 returns c =
     parts_read c.args.state.now _ _ _ _ (omega arith) (same_from_all_zip _ _ _ c.copy_by.ensures (λ x y h. search rules))
-    c.copy_from_slice.ensures.after c.copy_from_slice-2.ensures.after
     (same_from_all_zip _ _ _ c.copy_by-2.ensures (λ x y h. search rules))
+    (same_from_all_zip _ _ _ c.copy_by-3.ensures (λ x y h. search rules))
+    (same_from_all_zip _ _ _ c.copy_by-4.ensures (λ x y h. search rules))
