@@ -1,7 +1,8 @@
 // What a step tells: an answer and six cycle counts.
 
 ghost use Rattle.std.specs.Prelude.{◌≡◌, ◌+◌};
-ghost use Rattle.entry.specs.Answer.{answer_number, answer_value, refusal_number, is_refusal, quiet, asked, cycles_of, answered, no_cycles, refused_by};
+ghost use Rattle.entry.specs.Answer.{answer_number, answer_value, refusal_number, is_refusal};
+ghost use Rattle.entry.specs.Answer.{quiet, asked, cycles_of, answered, no_cycles, refused_by};
 ghost use Rattle.entry.specs.declared.answer.Answer.TheVariants.{Refused};
 ghost use Rattle.entry.specs.Kinds.{cycle_number};
 ghost use Rattle.entry.specs.Refusals.{number_of};
